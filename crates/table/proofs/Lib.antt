@@ -1,0 +1,5 @@
+pub mod Moves
+pub mod Pairs
+pub mod Keys
+pub mod Decisions
+pub mod Sounds
