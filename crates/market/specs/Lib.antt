@@ -1,0 +1,4 @@
+pub mod Limits
+pub mod Precedence
+pub mod Zones
+pub mod Refusals
