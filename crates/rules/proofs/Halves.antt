@@ -1,10 +1,10 @@
--- The half rounded down, and the midpoint.
+-- The half of a whole number, rounded down.
 use mathlib.Core.Path.{_≡_, refl}
 use native.Mathlib.Omega.{arith}
 use lib.IntN.{ℤ, pos, negsuc, _+ℤ_}
 use lib.Signed.{_≤ℤ_, _<ℤ_, shrZ}
 use Rattle.std.proofs.shelf.Signed.{ints}
-use Rattle.rules.specs.Prices.{half-down, midpoint, Rounded-midpoint}
+use Rattle.rules.specs.Prices.{half-down}
 
 -- a shift by one place rounds down
 pub shift-halves : (z : ℤ) → shrZ z 2 ≡ half-down z
@@ -14,6 +14,3 @@ shift-halves (negsuc n) = refl
 pub half-rounds : (z : ℤ) → ((half-down z +ℤ half-down z) ≤ℤ z) × (z <ℤ (half-down z +ℤ half-down z +ℤ pos 2))
 half-rounds (pos n) = (omega (arith, ints), omega (arith, ints))
 half-rounds (negsuc n) = (omega (arith, ints), omega (arith, ints))
-
-pub midpoint-rounds : (low high : ℤ) → low ≤ℤ high → Rounded-midpoint low high (midpoint low high)
-midpoint-rounds low high h = let r = half-rounds (low +ℤ high) in (grind (arith, ints), grind (arith, ints))

@@ -9,7 +9,7 @@ use lib.Signed.{_≤ℤ_, _<ℤ_, ltZ}
 abbrev pub low-end : ℤ → ℤ → ℤ
 low-end low high = low
 
--- half of a whole number, rounded down; negsuc n is -(n + 1), so that of -3 it is -2
+-- half of a whole number, rounded down: of 3 it is 1, and of -3 it is -2 (negsuc n is -(n + 1))
 abbrev pub half-down : ℤ → ℤ
 half-down (pos n) = pos (n / 2)
 half-down (negsuc n) = negsuc (n / 2)

@@ -7,15 +7,15 @@ use lib.Dec.{leb}
 
 -- the laws
 pub record Shares (g : ℕ → ℕ → ℕ → ℕ) : Type 0 where
-  -- no tenth has been given anything
+  -- before the first tenth nothing has been given
   pub none : (l s : ℕ) → l ≤ s → g l s 0 ≡ 0
-  -- the whole tie has been given the amount
+  -- the whole tie has been given the whole amount
   pub whole : (l s : ℕ) → l ≤ s → g l s s ≡ l
   -- it never falls as c grows to d
   pub rises : (l s c d : ℕ) → l ≤ s → c ≤ d → d ≤ s → g l s c ≤ g l s d
   -- it never grows by more than c grows
   pub slowly : (l s c d : ℕ) → l ≤ s → c ≤ d → d ≤ s → g l s d + c ≤ g l s c + d
-  -- more to share than is tied, or more counted: nothing
+  -- where more is to be shared than is tied, or more is counted, it is 0
   pub outside : (l s c : ℕ) → ((l ≤ s) × (c ≤ s) → ⊥) → g l s c ≡ 0
 
 -- n where the amount and the volume counted are within the tied volume, else 0

@@ -1,9 +1,10 @@
-// Price rules: the price that an exchange takes between a low end and a high end.
+// Price rules: the price that an exchange takes from a bracket, which is a low end and a high end (docs/MARKET.md).
 ghost use mathlib.Core.Path.{_≡_};
 ghost use lib.IntN.{ℤ};
 ghost use lib.Signed.{_≤ℤ_, _<ℤ_};
 ghost use Rattle.rules.specs.Prices.{Rounded-midpoint, low-end, midpoint};
 
+// A rule is asked by `&self`: it stays as it is.
 pub trait PriceRule {
     // The price that the rule answers, from what it holds and the two ends.
     ghost meaning: { Self → ℤ → ℤ → ℤ };
@@ -23,8 +24,7 @@ pub struct LowEnd;
 pub impl PriceRule for LowEnd as LowEndPrice {
     ghost meaning = { λ rule low high. low-end low high };
 
-    fn price(&self, low: i32, high: i32) -> i32 {
-        let _ = high;
+    fn price(&self, low: i32, _high: i32) -> i32 {
         low
     }
 }

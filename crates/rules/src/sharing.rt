@@ -1,9 +1,10 @@
-// Sharing rules: how an amount is given out along a tie, the blocks of one price that cannot all be matched whole.
+// Sharing rules: how an amount is given out along a tie, the blocks that stand at the marginal price (docs/MARKET.md).
 ghost use mathlib.Core.Path.{_≡_};
 ghost use Prim.Native.Nat.{ℕ, _≤_};
 ghost use Rattle.std.specs.Orderings.{Decides};
 ghost use Rattle.rules.specs.Shares.{Shares, by-precedence, in-proportion};
 
+// A rule is asked by `&self`: it stays as it is.
 pub trait SharingRule {
     // How much of an amount is given to the front of a tie: from what the rule holds, the amount, the tied volume, and the
     // volume counted from the front.
@@ -15,14 +16,14 @@ pub trait SharingRule {
         ensures { λ r. ⌜ r ≡ meaning (now (self .entry)) amount tied counted ⌝ };
 }
 
-// Whether there is no more to give than the tie has, and no more counted.
+// Whether the amount and the volume counted are both within the tied volume.
 fn fits(amount: u32, tied: u32, counted: u32) -> bool
     ensures { λ r. ⌜ Decides r ((amount ≤ tied) × (counted ≤ tied)) ⌝ }
 {
     amount <= tied && counted <= tied
 }
 
-// The front of the tie is served first.
+// By precedence: the front of the tie is served first.
 #[derive(Clone, Copy)]
 pub struct ByPrecedence;
 
@@ -38,7 +39,7 @@ pub impl SharingRule for ByPrecedence as ByPrecedenceSharing {
     }
 }
 
-// Each part of the tie is served in proportion to its volume, in whole tenths.
+// In proportion: each part of the tie is served by its volume, in whole tenths.
 #[derive(Clone, Copy)]
 pub struct InProportion;
 
