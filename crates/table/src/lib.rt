@@ -1,5 +1,5 @@
 // An ordered table over a lent slice, for every kind of record that has a key and a precedence.
 pub mod fault;
 pub mod record;
-pub mod slices;
+mod slices;
 pub mod table;

@@ -9,7 +9,7 @@ ghost use Rattle.table.specs.Rows.{Apart, Rising, Sound, seat, rank};
 use crate::record::Record;
 
 // The counted rows: the first `count`, or all where there are fewer.
-pub fn counted<R>(rows: &[R], count: usize) -> &[R]
+pub(crate) fn counted<R>(rows: &[R], count: usize) -> &[R]
     ensures { λ r. ⌜ now r ≡ take count (now (rows .entry)) ⌝ }
 {
     if count < rows.len() {
@@ -20,7 +20,7 @@ pub fn counted<R>(rows: &[R], count: usize) -> &[R]
 }
 
 // The place of the first row with the key, or the length where there is none.
-pub fn seat_of<R: Record>(rows: &[R], key: R::Key) -> usize
+pub(crate) fn seat_of<R: Record>(rows: &[R], key: R::Key) -> usize
     ensures { λ r. ⌜ r ≡ seat order key (now (rows .entry)) ⌝ }
 {
     for i in 0..rows.len() {
@@ -32,7 +32,7 @@ pub fn seat_of<R: Record>(rows: &[R], key: R::Key) -> usize
 }
 
 // How many rows, from the first on, come before `row`.
-pub fn rank_of<R: Record>(rows: &[R], row: &R) -> usize
+pub(crate) fn rank_of<R: Record>(rows: &[R], row: &R) -> usize
     ensures { λ r. ⌜ r ≡ rank order (now (row .entry)) (now (rows .entry)) ⌝ }
 {
     for i in 0..rows.len() {
@@ -69,7 +69,7 @@ pub(crate) fn close_at<R: Copy>(rows: &mut [R], p: usize, n: usize)
 }
 
 // Whether each row is within its limits.
-pub fn all_within<R: Record>(rows: &[R]) -> bool
+pub(crate) fn all_within<R: Record>(rows: &[R]) -> bool
     ensures { λ r. ⌜ Decides r (All limits (now (rows .entry))) ⌝ }
 {
     for row in rows {
@@ -81,7 +81,7 @@ pub fn all_within<R: Record>(rows: &[R]) -> bool
 }
 
 // Whether each row comes before the next one, and so before every later one.
-pub fn rising<R: Record>(rows: &[R]) -> bool
+pub(crate) fn rising<R: Record>(rows: &[R]) -> bool
     ensures { λ r. ⌜ Decides r (Rising order (now (rows .entry))) ⌝ }
 {
     for i in 1..rows.len() {
@@ -95,7 +95,7 @@ pub fn rising<R: Record>(rows: &[R]) -> bool
 }
 
 // Whether no key stands twice.
-pub fn keys_apart<R: Record>(rows: &[R]) -> bool
+pub(crate) fn keys_apart<R: Record>(rows: &[R]) -> bool
     ensures { λ r. ⌜ Decides r (Apart order (now (rows .entry))) ⌝ }
 {
     for i in 0..rows.len() {
@@ -107,7 +107,7 @@ pub fn keys_apart<R: Record>(rows: &[R]) -> bool
 }
 
 // Whether the rows are within their limits and in order, with no key twice.
-pub fn is_sound<R: Record>(rows: &[R]) -> bool
+pub(crate) fn is_sound<R: Record>(rows: &[R]) -> bool
     ensures { λ r. ⌜ Decides r (Sound order limits (now (rows .entry))) ⌝ }
 {
     if !all_within(rows) {
