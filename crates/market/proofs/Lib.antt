@@ -1,2 +1,3 @@
 pub mod Lexes
 pub mod Keys
+pub mod Causes

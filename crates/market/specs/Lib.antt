@@ -2,3 +2,4 @@ pub mod Limits
 pub mod Precedence
 pub mod Zones
 pub mod Refusals
+pub mod Entering

@@ -30,12 +30,12 @@ pub record Cause : Type 1 where
   pub why : Refusal
   pub holds : Type 0
 
+abbrev pub Refused-for : {A : Type 0} → Refusal → Result A Refusal → Type 0
+Refused-for why (Ok _) = ⊥
+Refused-for why (Err w) = w ≡ why
+
 -- the answer is the first cause that holds, or acceptance where none does
 abbrev pub First-cause : {A : Type 0} → List Cause → Result A Refusal → Type 0
 First-cause [] (Ok _) = Unit {0}
 First-cause [] (Err why) = ⊥
 First-cause (c ∷ cs) r = (c .holds → Refused-for (c .why) r) × ((c .holds → ⊥) → First-cause cs r)
-  where
-    Refused-for : {A : Type 0} → Refusal → Result A Refusal → Type 0
-    Refused-for why (Ok _) = ⊥
-    Refused-for why (Err w) = w ≡ why

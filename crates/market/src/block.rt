@@ -2,6 +2,8 @@
 ghost use mathlib.Core.Path.{_≡_};
 ghost use Rattle.std.specs.Orderings.{Decides};
 ghost use Rattle.market.specs.Limits.{Block-limits, Key-limits, Name-limits};
+ghost use Rattle.market.specs.Entering.{bid-causes, fresh};
+ghost use Rattle.market.specs.Refusals.{First-cause};
 ghost use Rattle.market.specs.Precedence.{at-one-price, key-of, lex, same-key};
 use crate::limits::agent_within;
 use crate::limits::number_within;
@@ -9,6 +11,7 @@ use crate::limits::price_within;
 use crate::limits::stamp_within;
 use crate::limits::unit_within;
 use crate::limits::volume_within;
+use crate::refusal::Refusal;
 
 // What an agent enters.
 #[derive(Clone, Copy)]
@@ -82,7 +85,32 @@ impl Bid {
     }
 }
 
+impl Bid {
+    // The first limit that the bid fails: that of a name, of the price or of the volume.
+    pub fn check(&self) -> Result<(), Refusal>
+        ensures { λ r. ⌜ First-cause (bid-causes (now (self .entry))) r ⌝ }
+    {
+        if !self.names_within() {
+            return Err(Refusal::OutsideLimits);
+        }
+        if !price_within(self.price) {
+            return Err(Refusal::PriceLimits);
+        }
+        if !volume_within(self.volume) {
+            return Err(Refusal::VolumeLimits);
+        }
+        Ok(())
+    }
+}
+
 impl Block {
+    // A bid of which nothing is matched.
+    pub fn unmatched(bid: Bid) -> Block
+        ensures { λ r. ⌜ r ≡ fresh bid ⌝ }
+    {
+        Block { bid, matched: 0 }
+    }
+
     pub fn within_limits(&self) -> bool
         ensures { λ r. ⌜ Decides r (Block-limits (now (self .entry))) ⌝ }
     {

@@ -1,0 +1,4 @@
+// The first program.
+mod ladders;
+
+fn main() {}
