@@ -5,6 +5,8 @@ use mathlib.Core.List.{List, [], _∷_, _++_}
 use Prim.Native.Nat.{ℕ, _+_, _≤_}
 use denote.Ref.{now}
 use lib.ListN.{length, take, drop}
+use Rattle.std.specs.declared.option.Option.{Option}
+use Rattle.std.specs.declared.option.Option.the-variants.{Some}
 use Rattle.std.specs.declared.result.Result.{Result}
 use Rattle.std.specs.declared.result.Result.the-variants.{Ok, Err}
 use Rattle.table.specs.Order.{Order}
@@ -12,17 +14,19 @@ use Rattle.table.specs.Rows.{Present, with-row}
 use Rattle.table.specs.declared.table.Table.{Table}
 use Rattle.market.specs.Entering.{bid-causes, fresh}
 use Rattle.market.specs.Precedence.{purchase-order, sale-order}
-use Rattle.market.specs.Refusals.{Cause}
+use Rattle.market.specs.Refusals.{Cause, First-cause, Refused-for}
 use Rattle.market.specs.Zones.{zone-number}
 use Rattle.market.specs.declared.block.Bid.{Bid}
+use Rattle.market.specs.declared.call.Call.the-variants.{Enter}
 use Rattle.market.specs.declared.refusal.Refusal.{Refusal}
-use Rattle.market.specs.declared.refusal.Refusal.the-variants.{KeyTaken, TableFull}
+use Rattle.market.specs.declared.refusal.Refusal.the-variants.{OutsideLimits, KeyTaken, TableFull, NoForm}
 use Rattle.market.specs.declared.sale.Sale as sale
 use Rattle.market.specs.declared.purchase.Purchase as purchase
 use Rattle.market.specs.declared.zone.Side.{Side}
 use Rattle.market.specs.declared.zone.Side.the-variants.{Sale, Purchase}
 use Rattle.market.specs.declared.zone.Zone.{Zone}
 use Rattle.market.specs.declared.zone.Zone.the-variants.{One, Two}
+use Rattle.callfile.specs.Text.{Writable, text}
 use Rattle.ladder.specs.declared.ladders.Ladder.{Ladder}
 use Rattle.ladder.specs.declared.ladders.Ladders.{Ladders}
 
@@ -77,3 +81,19 @@ Same-ladder l m = Same (l .sales) (m .sales) × Same (l .purchases) (m .purchase
 
 abbrev pub Same-ladders : Ladders → Ladders → Type 0
 Same-ladders l m = Same-ladder (l .one) (m .one) × Same-ladder (l .two) (m .two)
+
+-- What entering a bid by the number n of its zone answers, r, and makes of the ladders l: m.
+pub record Entering {A : Type 0} (n : ℕ) (s : Side) (b : Bid) (l m : Ladders) (r : Result A Refusal) : Type 0 where
+  pub wrong : No-zone n → Refused-for OutsideLimits r × Same-ladders l m
+  pub why : (z : Zone) → zone-number z ≡ n → First-cause (enter-causes z s b l) r
+  pub put : (z : Zone) → zone-number z ≡ n → Put s b (of-zone z l) (of-zone z m) r
+  pub other : (z : Zone) → zone-number z ≡ n → Same-ladder (other-zone z l) (other-zone z m)
+
+-- the line is the text of an enter call; it is None where it is too long
+abbrev pub Says : Option (List ℕ) → ℕ → Side → Bid → Type 0
+Says line n s b = Writable (Enter n s b) × (line ≡ Some (text (Enter n s b)))
+
+-- what a line answers and makes of the ladders: it enters the bid that it says, and is no form if it says none
+pub record Answering {A : Type 0} (line : Option (List ℕ)) (l m : Ladders) (r : Result A Refusal) : Type 0 where
+  pub entering : (n : ℕ) (s : Side) (b : Bid) → Says line n s b → Entering n s b l m r
+  pub none : ((n : ℕ) (s : Side) (b : Bid) → Says line n s b → ⊥) → Refused-for NoForm r × Same-ladders l m

@@ -1,12 +1,13 @@
 // The ladders of the two zones: each zone and side has its own.
 ghost use mathlib.Core.Path.{_≡_};
 ghost use denote.Ref.{name};
-ghost use Rattle.market.specs.Refusals.{First-cause, Refused-for};
-ghost use Rattle.market.specs.Zones.{zone-number};
-ghost use Rattle.market.specs.declared.refusal.Refusal.the-variants.{OutsideLimits};
-ghost use Rattle.ladder.specs.Ladders.{No-zone, Placed, Put, Same-ladder, Same-ladders, enter-causes, of-zone, other-zone, row-causes, side-causes};
+ghost use Rattle.market.specs.Refusals.{First-cause};
+ghost use Rattle.std.specs.Options.{mapped};
+ghost use Rattle.ladder.specs.Ladders.{Answering, Entering, Placed, Put, Same-ladder, of-zone, other-zone, row-causes, side-causes};
+use callfile::forms::read_call;
 use market::block::Bid;
 use market::block::Block;
+use market::call::Call;
 use market::purchase::Purchase;
 use market::purchase::PurchaseRecord;
 use market::refusal::Refusal;
@@ -45,6 +46,16 @@ fn place<R: Record>(table: &mut Table<R>, row: R) -> Result<(), Refusal>
 }
 
 impl<'a> Ladder<'a> {
+    // Two empty ladders over places that are lent.
+    pub fn new(sales: &'a mut [Sale], purchases: &'a mut [Purchase]) -> Ladder<'a>
+        ensures sales { λ r. ⌜ (now (r .sales .rows) ≡ now (sales .entry)) × (r .sales .count ≡ 0) ⌝ }
+        ensures purchases { λ r. ⌜ (now (r .purchases .rows) ≡ now (purchases .entry)) × (r .purchases .count ≡ 0) ⌝ }
+    {
+        let sales = Table::new(sales, 0);
+        let purchases = Table::new(purchases, 0);
+        Ladder { sales, purchases }
+    }
+
     // Puts a bid into the ladder of its side.
     pub fn put(&mut self, side: Side, bid: Bid) -> Result<(), Refusal>
         ensures why { λ r. ⌜ First-cause (side-causes side bid (now (self .entry))) r ⌝ }
@@ -59,6 +70,13 @@ impl<'a> Ladder<'a> {
 }
 
 impl<'a> Ladders<'a> {
+    pub fn new(one: Ladder<'a>, two: Ladder<'a>) -> Ladders<'a>
+        ensures one { λ r. ⌜ Same-ladder (one .entry) (r .one) ⌝ }
+        ensures two { λ r. ⌜ Same-ladder (two .entry) (r .two) ⌝ }
+    {
+        Ladders { one, two }
+    }
+
     // Puts a bid into the ladder of its zone and side.
     pub fn put(&mut self, zone: Zone, side: Side, bid: Bid) -> Result<(), Refusal>
         ensures why { λ r. ⌜ First-cause (side-causes side bid (of-zone zone (now (self .entry)))) r ⌝ }
@@ -73,9 +91,7 @@ impl<'a> Ladders<'a> {
 
     // Enters a bid by the number of its zone, or answers the first cause against it.
     pub fn enter(&mut self, zone: u32, side: Side, bid: Bid) -> Result<(), Refusal>
-        ensures wrong { λ r. ⌜ (No-zone zone → Refused-for OutsideLimits r × Same-ladders (now (self .entry)) (now (self .exit))) ⌝ }
-        ensures why { λ r. ⌜ ((z : Zone) → zone-number z ≡ zone → First-cause (enter-causes z side bid (now (self .entry))) r) ⌝ }
-        ensures after { λ r. ⌜ ((z : Zone) → zone-number z ≡ zone → Put side bid (of-zone z (now (self .entry))) (of-zone z (now (self .exit))) r × Same-ladder (other-zone z (now (self .entry))) (other-zone z (now (self .exit)))) ⌝ }
+        ensures { λ r. ⌜ Entering zone side bid (now (self .entry)) (now (self .exit)) r ⌝ }
     {
         let Some(zone) = Zone::of(zone) else {
             return Err(Refusal::OutsideLimits);
@@ -83,6 +99,19 @@ impl<'a> Ladders<'a> {
         match bid.check() {
             Ok(()) => self.put(zone, side, bid),
             Err(why) => Err(why),
+        }
+    }
+
+    // Enters the bid of a line; any other line is no form, and so is one that was too long to be held.
+    pub fn answer(&mut self, line: Option<&[u8]>) -> Result<(), Refusal>
+        ensures { λ r. ⌜ Answering (mapped now (line .entry)) (now (self .entry)) (now (self .exit)) r ⌝ }
+    {
+        let Some(bytes) = line else {
+            return Err(Refusal::NoForm);
+        };
+        match read_call(bytes) {
+            Some(Call::Enter { zone, side, bid }) => self.enter(zone, side, bid),
+            _ => Err(Refusal::NoForm),
         }
     }
 }

@@ -20,5 +20,6 @@ returns-in-Err c =
     record {
       wrong = λ n. absurd (n (c .in-Some .zone) (c .in-Some .ensures tt));
       why = λ z e. first-refuses (Unit {0}) (Unit {0}) (bid-causes (c .args .bid)) (side-causes (c .args .side) (c .args .bid) (of-zone z (c .args .self .now))) (c .in-Err .why) (c .in-Err .ensures tt);
-      after = λ z e. (unput (c .args .side) (c .args .bid) (of-zone z (c .args .self .now)) (c .in-Err .why), ((refl, refl), (refl, refl)));
+      put = λ z e. unput (c .args .side) (c .args .bid) (of-zone z (c .args .self .now)) (c .in-Err .why);
+      other = λ z e. ((refl, refl), (refl, refl));
     }
