@@ -3,7 +3,7 @@
 -- accounts by rising agent. `lex` compares two lists by the first place at which they differ.
 use mathlib.Core.Bool.{Bool, true, false, cond, _&&_}
 use mathlib.Core.List.{List, [], _∷_}
-use Prim.Native.Nat.{ℕ}
+use Prim.Native.Nat.{ℕ, _+_, _*_}
 use lib.Dec.{eqb, ltb}
 use lib.IntN.{ℤ, pos, negℤ}
 use lib.Signed.{ltZ}
@@ -25,6 +25,10 @@ key-of b = record { unit = b .unit; number = b .number }
 
 abbrev pub same-key : BlockKey → BlockKey → Bool
 same-key a b = eqb (a .unit) (b .unit) && eqb (a .number) (b .number)
+
+-- units and block numbers are numbers of 32 bits
+abbrev pub key-code : BlockKey → ℕ
+key-code k = k .unit * 4294967296 + k .number
 
 -- what decides between bids of one price
 abbrev pub at-one-price : Bid → List ℤ

@@ -20,6 +20,10 @@ pub impl Record for Account as AccountRecord {
 
     ghost order = { account-order };
 
+    ghost code = { λ agent. agent };
+
+    ghost coded = { λ _. Unit {0} };
+
     ghost limits = { Account-limits };
 
     fn limit() -> usize {
@@ -28,6 +32,10 @@ pub impl Record for Account as AccountRecord {
 
     fn key(&self) -> u32 {
         self.agent
+    }
+
+    fn key_code(&self) -> u64 {
+        self.agent as u64
     }
 
     fn same_key(a: u32, b: u32) -> bool {

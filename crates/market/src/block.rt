@@ -4,7 +4,7 @@ ghost use Rattle.std.specs.Orderings.{Decides};
 ghost use Rattle.market.specs.Limits.{Block-limits, Key-limits, Name-limits};
 ghost use Rattle.market.specs.Entering.{bid-causes, fresh};
 ghost use Rattle.market.specs.Refusals.{First-cause};
-ghost use Rattle.market.specs.Precedence.{at-one-price, key-of, lex, same-key};
+ghost use Rattle.market.specs.Precedence.{at-one-price, key-code, key-of, lex, same-key};
 use crate::limits::agent_within;
 use crate::limits::number_within;
 use crate::limits::price_within;
@@ -43,6 +43,13 @@ impl BlockKey {
         ensures { λ r. ⌜ r ≡ same-key self other ⌝ }
     {
         self.unit == other.unit && self.number == other.number
+    }
+
+    // A number of the key, another one for every other key.
+    pub fn code(self) -> u64
+        ensures { λ r. ⌜ r ≡ key-code self ⌝ }
+    {
+        self.unit as u64 * 0x1_0000_0000 + self.number as u64
     }
 
     pub fn within_limits(self) -> bool

@@ -1,6 +1,7 @@
 // A sale block as a row of a table: the cheapest comes first.
 ghost use Rattle.market.specs.Limits.{Block-limits};
-ghost use Rattle.market.specs.Precedence.{sale-order};
+ghost use Prim.Native.Nat.{_<_};
+ghost use Rattle.market.specs.Precedence.{key-code, sale-order};
 use crate::block::Block;
 use crate::block::BlockKey;
 use table::record::Record;
@@ -19,6 +20,10 @@ pub impl Record for Sale as SaleRecord {
 
     ghost order = { sale-order };
 
+    ghost code = { key-code };
+
+    ghost coded = { λ k. k .number < 4294967296 };
+
     ghost limits = { λ s. Block-limits (s .block) };
 
     fn limit() -> usize {
@@ -27,6 +32,10 @@ pub impl Record for Sale as SaleRecord {
 
     fn key(&self) -> BlockKey {
         self.block.bid.key()
+    }
+
+    fn key_code(&self) -> u64 {
+        self.block.bid.key().code()
     }
 
     fn same_key(a: BlockKey, b: BlockKey) -> bool {

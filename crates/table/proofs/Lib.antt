@@ -3,3 +3,4 @@ pub mod Pairs
 pub mod Keys
 pub mod Decisions
 pub mod Sounds
+pub mod Distincts

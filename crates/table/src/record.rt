@@ -1,4 +1,5 @@
 // A kind of record: its key, its largest count, its limits and its precedence.
+ghost use mathlib.Core.Bool.{true};
 ghost use mathlib.Core.Path.{_≡_};
 ghost use Prim.Native.Nat.{ℕ};
 ghost use Rattle.std.specs.Orderings.{Decides};
@@ -18,13 +19,24 @@ pub trait Record: Copy {
     // What holds of a row within its limits.
     ghost limits: { Self → Type 0 };
 
+    // A number for each key, and what holds of the keys that rows have: different ones have different numbers.
+    ghost code: { Self·Key → ℕ };
+
+    ghost coded: { Self·Key → Type 0 };
+
     law lawful: { Lawful order };
+
+    law tells: { (a b : Self·Key) → coded a → coded b → code a ≡ code b → order .same a b ≡ true };
 
     fn limit() -> usize
         ensures { λ r. ⌜ r ≡ most ⌝ };
 
     fn key(&self) -> Self::Key
         ensures { λ r. ⌜ r ≡ order .named (now (self .entry)) ⌝ };
+
+    fn key_code(&self) -> u64
+        ensures value { λ r. ⌜ r ≡ code (order .named (now (self .entry))) ⌝ }
+        ensures coded { λ _. ⌜ coded (order .named (now (self .entry))) ⌝ };
 
     fn same_key(a: Self::Key, b: Self::Key) -> bool
         ensures { λ r. ⌜ r ≡ order .same a b ⌝ };

@@ -1,10 +1,11 @@
 // The loops of a table, over plain slices.
 ghost use mathlib.Core.Path.{_≡_};
-ghost use mathlib.Core.List.{_∷_, _++_};
+ghost use mathlib.Core.List.{_∷_, _++_, map};
 ghost use Prim.Native.Nat.{ℕ, _+_, _-_, _<_, _≤_};
 ghost use lib.ListN.{length, take, drop};
 ghost use Rattle.std.specs.Orderings.{Decides};
 ghost use Rattle.std.specs.shelf.Lists.{All};
+ghost use Rattle.table.specs.Codes.{Changing, Distinct};
 ghost use Rattle.table.specs.Rows.{Apart, Rising, Sound, seat, rank};
 use crate::record::Record;
 
@@ -94,8 +95,8 @@ pub(crate) fn rising<R: Record>(rows: &[R]) -> bool
     true
 }
 
-// Whether no key stands twice.
-pub(crate) fn keys_apart<R: Record>(rows: &[R]) -> bool
+// Whether no key stands twice, by a look at every earlier row: for more rows than there is room for codes.
+fn keys_apart_slowly<R: Record>(rows: &[R]) -> bool
     ensures { λ r. ⌜ Decides r (Apart order (now (rows .entry))) ⌝ }
 {
     for i in 0..rows.len() {
@@ -104,6 +105,52 @@ pub(crate) fn keys_apart<R: Record>(rows: &[R]) -> bool
         }
     }
     true
+}
+
+// Writes the codes of the rows' keys.
+fn gather<R: Record>(rows: &[R], codes: &mut [u64])
+    requires { ⌜ length (now codes) ≡ length (now rows) ⌝ }
+    ensures codes { λ _. ⌜ now (codes .exit) ≡ map (λ x. code (order .named x)) (now (rows .entry)) ⌝ }
+    ensures coded { λ _. ⌜ All (λ x. coded (order .named x)) (now (rows .entry)) ⌝ }
+{
+    for i in 0..rows.len() {
+        codes[i] = rows[i].key_code();
+    }
+}
+
+// Whether each number differs from the next.
+fn neighbours_differ(codes: &[u64]) -> bool
+    ensures { λ r. ⌜ Decides r (Changing (now (codes .entry))) ⌝ }
+{
+    for i in 1..codes.len() {
+        if codes[i - 1] == codes[i] {
+            return false;
+        }
+    }
+    true
+}
+
+// Whether no number stands twice: once they are sorted, equal numbers are neighbours.
+fn all_differ(codes: &mut [u64]) -> bool
+    ensures { λ r. ⌜ Decides r (Distinct (now (codes .entry))) ⌝ }
+{
+    codes.sort_unstable();
+    neighbours_differ(codes)
+}
+
+const ROOM: usize = 512;
+
+// Whether no key stands twice.
+pub(crate) fn keys_apart<R: Record>(rows: &[R]) -> bool
+    ensures { λ r. ⌜ Decides r (Apart order (now (rows .entry))) ⌝ }
+{
+    if rows.len() > ROOM {
+        return keys_apart_slowly(rows);
+    }
+    let mut room = [0u64; ROOM];
+    let codes = &mut room[0..rows.len()];
+    gather(rows, codes);
+    all_differ(codes)
 }
 
 // Whether the rows are within their limits and in order, with no key twice.

@@ -1,0 +1,5 @@
+pub mod Forms
+pub mod Gathering
+pub mod Reading
+pub mod Text
+pub mod Tokens
