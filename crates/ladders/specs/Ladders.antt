@@ -27,8 +27,8 @@ use Rattle.market.specs.declared.zone.Side.the-variants.{Sale, Purchase}
 use Rattle.market.specs.declared.zone.Zone.{Zone}
 use Rattle.market.specs.declared.zone.Zone.the-variants.{One, Two}
 use Rattle.callfile.specs.Text.{Writable, text}
-use Rattle.ladder.specs.declared.ladders.Ladder.{Ladder}
-use Rattle.ladder.specs.declared.ladders.Ladders.{Ladders}
+use Rattle.ladders.specs.declared.ladders.Ladder.{Ladder}
+use Rattle.ladders.specs.declared.ladders.Ladders.{Ladders}
 
 -- the rows that a table counts
 abbrev pub standing : {X : Type 0} → Table X → List X

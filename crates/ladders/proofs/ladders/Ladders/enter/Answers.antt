@@ -6,9 +6,9 @@ use Rattle.market.specs.declared.block.Bid.{Bid}
 use Rattle.market.specs.declared.refusal.Refusal.{Refusal}
 use Rattle.market.specs.declared.zone.Side.{Side}
 use Rattle.market.specs.declared.zone.Side.the-variants.{Sale, Purchase}
-use Rattle.ladder.specs.Ladders.{Put, of-zone, side-causes}
-use Rattle.ladder.specs.declared.ladders.Ladder.{Ladder}
-use Rattle.ladder.proofs.ladders.Ladders.enter.Needs as need
+use Rattle.ladders.specs.Ladders.{Put, of-zone, side-causes}
+use Rattle.ladders.specs.declared.ladders.Ladder.{Ladder}
+use Rattle.ladders.proofs.ladders.Ladders.enter.Needs as need
 
 -- a refusal that leaves a ladder as it was
 unput : (s : Side) (b : Bid) (l : Ladder) (w : Refusal) → Put {A = Unit {0}} s b l l (Err w)

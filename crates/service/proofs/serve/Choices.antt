@@ -1,6 +1,6 @@
 use mathlib.Core.Path.{_≡_}
 use lib.ListN.{length}
-use Rattle.ladder.proofs.serve.Given as given
+use Rattle.service.proofs.serve.Given as given
 
 abbrev pub Inv-loop : given.InvT-loop
 Inv-loop g l = length (l .piece) ≡ 4096

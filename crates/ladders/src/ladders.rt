@@ -3,7 +3,7 @@ ghost use mathlib.Core.Path.{_≡_};
 ghost use denote.Ref.{name};
 ghost use Rattle.market.specs.Refusals.{First-cause};
 ghost use Rattle.std.specs.Options.{mapped};
-ghost use Rattle.ladder.specs.Ladders.{Answering, Entering, Placed, Put, Same-ladder, of-zone, other-zone, row-causes, side-causes};
+ghost use Rattle.ladders.specs.Ladders.{Answering, Entering, Placed, Put, Same-ladder, of-zone, other-zone, row-causes, side-causes};
 use callfile::forms::read_call;
 use market::block::Bid;
 use market::block::Block;
