@@ -1,0 +1,13 @@
+pub mod Roundings
+pub mod Totals
+pub mod Adding
+pub mod Products
+pub mod Rows
+pub mod Writes
+pub mod Owners
+pub mod Parts
+pub mod Deciding
+pub mod Posts
+pub mod Causes
+pub mod Keeping
+pub mod Sounding
