@@ -1,0 +1,10 @@
+pub mod Offers
+pub mod Curve
+pub mod Books
+pub mod Bracket
+pub mod Ready
+pub mod Tables
+pub mod Clearing
+pub mod Best
+pub mod Steps
+pub mod Worked

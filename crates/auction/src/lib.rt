@@ -1,0 +1,44 @@
+// Clearing one period of two zones.
+ghost use Rattle.auction.specs.Best.{Amount-found, Clearing-is-best, Tenths-placed};
+ghost use Rattle.auction.specs.Worked.{Worked-results};
+
+pub mod bracket;
+pub mod crossing;
+pub mod engine;
+pub mod fill;
+pub mod line;
+pub mod merge;
+pub mod offer;
+pub mod pool;
+pub mod row;
+pub mod side;
+pub mod sums;
+pub mod zones;
+
+// The downward search finds where the curves meet.
+pub fn amount_found() -> u8
+    ensures { λ _. ⌜ Amount-found ⌝ }
+{
+    0
+}
+
+// Where the zones as one exchange more than the line carries, its tenths are placed in each zone alone.
+pub fn tenths_placed() -> u8
+    ensures { λ _. ⌜ Tenths-placed ⌝ }
+{
+    0
+}
+
+// Whatever the two rules, the clearing is a balanced schedule that its prices support, and no other is better.
+pub fn clearing_is_best() -> u8
+    ensures { λ _. ⌜ Clearing-is-best ⌝ }
+{
+    0
+}
+
+// The definitions give the worked results.
+pub fn worked_results() -> u8
+    ensures { λ _. ⌜ Worked-results ⌝ }
+{
+    0
+}
