@@ -1,26 +1,24 @@
 -- The entries of a balanced session add up, for every way of rounding that keeps its law.
 use mathlib.Core.Path.{_≡_, refl, sym, ap, _∙_}
 use mathlib.Core.Bool.{Bool, true, false, cond}
-use mathlib.Core.List.{List, [], _∷_, _++_, map}
-use mathlib.Core.Logic.{⊎-elim}
-use Prim.Native.Nat.{ℕ, zero, suc, _+_, _*_, _≤_, _<_}
+use mathlib.Core.List.{List, [], _∷_, map}
+use Prim.Native.Nat.{ℕ, zero, _+_, _*_, _≤_}
 use native.Mathlib.Omega.{arith}
 use lib.Dec.{ltb}
 use lib.IntN.{ℤ, pos, negsuc, negℤ, natAbs, _+ℤ_, _-ℤ_, _*ℤ_, *ℤ-comm}
 use lib.ListN.{length, length-map}
 use borrow.Author.Differences.{up, down}
-use Rattle.std.specs.shelf.Lists.{kept-by, sumBy}
+use Rattle.std.specs.shelf.Lists.{kept-by}
 use Rattle.std.proofs.shelf.Signed.{ints}
 use Rattle.std.proofs.shelf.Sums.{sumBy-cons}
-use Rattle.std.proofs.shelf.Tests.{cases-bool, ltb-false}
+use Rattle.std.proofs.shelf.Tests.{ltb-false}
 use Rattle.market.specs.declared.zone.Side.{Side}
 use Rattle.market.specs.declared.zone.Side.the-variants as side
-use Rattle.settlement.specs.Rounding.{nearest-cent}
-use Rattle.settlement.specs.Entries.{Due, Outcome, Trade, Zone-outcome, block-dues, block-entries, buying, due, dues, entries-of, entry, income-due, is-matched, selling, session-dues, signed, zone-dues}
+use Rattle.settlement.specs.Entries.{Due, Outcome, Trade, Zone-outcome, block-dues, buying, due, dues, entries-of, entry, income-due, is-matched, selling, session-dues, signed, zone-dues}
 use Rattle.settlement.specs.Postings.{remainder, residue-of, tenth, total}
 use Rattle.settlement.specs.Balance.{Adds-up, Balanced, matched}
 use Rattle.settlement.proofs.Roundings.{rounds}
-use Rattle.settlement.proofs.Totals.{total-append, total-map}
+use Rattle.settlement.proofs.Totals.{total-append}
 
 spread : (p a b : ℤ) → p *ℤ (a +ℤ b) ≡ p *ℤ a +ℤ p *ℤ b
 spread p a b =

@@ -1,5 +1,5 @@
 -- Entries written one after another.
-use mathlib.Core.Path.{_≡_, refl, sym, ap, _∙_}
+use mathlib.Core.Path.{_≡_, sym, ap, _∙_}
 use mathlib.Core.List.{List, [], _∷_, _++_}
 use Prim.Native.Nat.{ℕ, _+_, _<_, _≤_}
 use native.Mathlib.Nat.{add-zero}
@@ -7,7 +7,7 @@ use native.Mathlib.Numerals.{add-one}
 use native.Mathlib.Omega.{arith}
 use lib.ListN.{length, take, drop, set, length-append, length-take, length-drop}
 use Rattle.std.proofs.shelf.Lists.{append-assoc, take-append-drop, length-take-le, take-at, drop-at, drop-drop, set-split}
-use Rattle.settlement.specs.Entries.{written}
+use Rattle.settlement.specs.Writing.{written}
 
 module _ {X : Type 0} where
   pub written-none : (place : ℕ) (xs : List X) → written place [] xs ≡ xs

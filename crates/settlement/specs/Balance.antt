@@ -1,15 +1,15 @@
 -- Matched volumes that balance with the flow, and what follows: a settlement adds up to zero.
 -- To believe: `Balanced`. The rest is proved.
 use mathlib.Core.Path.{_≡_}
-use mathlib.Core.List.{List, []}
-use Prim.Native.Nat.{ℕ, _+_, _*_, _≤_}
-use lib.IntN.{ℤ, pos, negℤ, natAbs, _+ℤ_, _-ℤ_, _*ℤ_}
+use mathlib.Core.List.{List}
+use Prim.Native.Nat.{ℕ, _*_, _≤_}
+use lib.IntN.{ℤ, pos, natAbs, _+ℤ_, _*ℤ_}
 use lib.ListN.{length}
 use Rattle.std.specs.shelf.Lists.{sumBy}
 use Rattle.market.specs.Precedence.{account-order}
 use Rattle.market.specs.declared.account.Account.{Account}
 use Rattle.table.specs.Rows.{Apart}
-use Rattle.settlement.specs.Entries.{Outcome, Trade, block-entries, buying, entries-of, selling, session-dues}
+use Rattle.settlement.specs.Entries.{Outcome, Trade, buying, entries-of, selling, session-dues}
 use Rattle.settlement.specs.Postings.{Known-agents, accounts-after, income-of, remainder, residue-of, total}
 
 abbrev pub matched : {X : Type 0} → Trade X → List X → ℕ

@@ -3,10 +3,9 @@
 -- congestion income is the flow times the difference of the prices and comes last; and the order of the blocks.
 use mathlib.Core.Bool.{Bool}
 use mathlib.Core.List.{List, [], _∷_, _++_, map}
-use Prim.Native.Nat.{ℕ, _+_}
+use Prim.Native.Nat.{ℕ}
 use lib.Dec.{ltb}
-use lib.ListN.{length, take, drop}
-use lib.IntN.{ℤ, pos, negℤ, _+ℤ_, _-ℤ_, _*ℤ_}
+use lib.IntN.{ℤ, pos, negℤ, _-ℤ_, _*ℤ_}
 use Rattle.std.specs.shelf.Lists.{kept-by}
 use Rattle.market.specs.declared.block.Block.{Block}
 use Rattle.market.specs.declared.purchase.Purchase.{Purchase}
@@ -88,7 +87,3 @@ block-entries o = map entry (block-dues o)
 
 abbrev pub entries-of : Outcome → List Entry
 entries-of o = map entry (session-dues o)
-
--- a list with others written over it from a place on
-abbrev pub written : {X : Type 0} → ℕ → List X → List X → List X
-written place ys xs = take place xs ++ (ys ++ drop (place + length ys) xs)

@@ -4,3 +4,4 @@ pub mod Postings
 pub mod Balance
 pub mod Sessions
 pub mod Settling
+pub mod Writing

@@ -3,7 +3,7 @@
 -- session's income and residue to those of the exchange; a refusal changes nothing.
 use mathlib.Core.Path.{_≡_}
 use mathlib.Core.List.{List, [], _∷_, _++_}
-use Prim.Native.Nat.{ℕ, _<_}
+use Prim.Native.Nat.{_<_}
 use lib.IntN.{ℤ, _+ℤ_}
 use lib.ListN.{length, drop}
 use Rattle.std.specs.declared.result.Result.{Result}

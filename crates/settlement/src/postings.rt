@@ -1,7 +1,6 @@
 // Posting the entries of a session to the accounts.
 ghost use mathlib.Core.Path.{_≡_};
-ghost use Prim.Native.Nat.{_+_, _*_, _^_, _≤_};
-ghost use lib.IntN.{natAbs, _+ℤ_};
+ghost use lib.IntN.{_+ℤ_};
 ghost use Rattle.std.specs.Orderings.{Decides};
 ghost use Rattle.std.specs.shelf.Lists.{All};
 ghost use Rattle.market.specs.Limits.{Position-limits};

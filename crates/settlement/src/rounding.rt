@@ -9,9 +9,11 @@ pub fn nearest_cent(amount: i64) -> i64
 {
     let cents = amount / 10;
     let rest = amount % 10;
-    if rest >= 5 {
+    let up = rest >= 5;
+    let down = rest <= -5;
+    if up {
         cents + 1
-    } else if rest <= -5 {
+    } else if down {
         cents - 1
     } else {
         cents

@@ -3,11 +3,12 @@ ghost use mathlib.Core.Path.{_≡_};
 ghost use mathlib.Core.Bool.{true};
 ghost use Prim.Native.Nat.{_+_, _*_, _^_, _<_, _≤_};
 ghost use lib.IntN.{pos, natAbs, _+ℤ_};
-ghost use lib.ListN.{length};
+ghost use lib.ListN.{length, set};
 ghost use Rattle.std.specs.Orderings.{Decides};
 ghost use Rattle.std.specs.shelf.Lists.{All};
 ghost use Rattle.settlement.specs.Balance.{Balanced};
-ghost use Rattle.settlement.specs.Entries.{block-entries, entries-of, written, zone-entries};
+ghost use Rattle.settlement.specs.Entries.{block-entries, entries-of, zone-entries};
+ghost use Rattle.settlement.specs.Writing.{written};
 ghost use Rattle.settlement.specs.Postings.{Known-agents, has-account, income-of, posted, residue-of, total};
 ghost use Rattle.settlement.specs.Sessions.{outcome-of, zone-of};
 use crate::amount::congestion_income;
@@ -92,6 +93,20 @@ fn exceeds(more: u128, less: u128, flow: i32) -> bool
     more as i128 == less as i128 + flow as i128
 }
 
+// Writes the entry of the congestion income at the place, also when it is zero.
+fn write_income(entries: &mut [Entry], place: usize, cents: i64)
+    requires { ⌜ place < length (now entries) ⌝ }
+    ensures { λ _. ⌜ now (entries .exit) ≡ set (now (entries .entry)) place (record { agent = 0; unit = 0; number = 0; cents = cents }) ⌝ }
+{
+    let income = Entry {
+        agent: 0,
+        unit: 0,
+        number: 0,
+        cents,
+    };
+    entries[place] = income;
+}
+
 impl ClearedSession<'_> {
     // Whether the matched volumes balance with the flow, zone by zone.
     pub(crate) fn is_balanced(self) -> bool
@@ -169,12 +184,6 @@ impl ClearedSession<'_> {
     {
         let next = self.one.write(entries, 0);
         let last = self.two.write(entries, next);
-        let income = Entry {
-            agent: 0,
-            unit: 0,
-            number: 0,
-            cents: self.income(),
-        };
-        entries[last] = income;
+        write_income(entries, last, self.income());
     }
 }

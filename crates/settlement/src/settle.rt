@@ -1,6 +1,5 @@
 // Settling a cleared session into the accounts.
 ghost use mathlib.Core.Path.{_≡_};
-ghost use Prim.Native.Nat.{_^_, _<_};
 ghost use lib.ListN.{length};
 ghost use lib.IntN.{_+ℤ_};
 ghost use Rattle.market.specs.Limits.{Position-limits};

@@ -1,14 +1,15 @@
 // The blocks of one side of one zone: what is matched of them, and what they are due. One loop for sales and purchases alike.
 ghost use mathlib.Core.Path.{_≡_};
-ghost use mathlib.Core.List.{[], _∷_, map};
+ghost use mathlib.Core.List.{[], _∷_};
 ghost use mathlib.Core.Bool.{true};
-ghost use Prim.Native.Nat.{_+_, _^_, _*_, _<_, _≤_};
+ghost use Prim.Native.Nat.{_+_, _^_, _<_, _≤_};
 ghost use lib.IntN.{ℤ, natAbs};
 ghost use lib.ListN.{length};
 ghost use Rattle.std.specs.Orderings.{Decides};
 ghost use Rattle.std.specs.shelf.Lists.{All, kept-by};
 ghost use Rattle.settlement.specs.Balance.{matched};
-ghost use Rattle.settlement.specs.Entries.{is-matched, side-entries, written};
+ghost use Rattle.settlement.specs.Entries.{is-matched, side-entries};
+ghost use Rattle.settlement.specs.Writing.{written};
 ghost use Rattle.settlement.specs.Postings.{has-account, posted, total};
 use crate::accounts::has_account;
 use crate::amount::cents;

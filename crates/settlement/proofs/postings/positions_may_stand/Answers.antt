@@ -2,7 +2,7 @@ use mathlib.Core.Path.{_≡_, refl, sym, subst}
 use native.Mathlib.Omega.{arith}
 use lib.IntN.{ℤ, pos, _+ℤ_}
 use lib.ListN.{getD}
-use mir.Syntax.{w64, w128}
+use mir.Syntax.{w128}
 use mir.Val.{toZ, ofZ}
 use Rattle.std.specs.shelf.Lists.{All}
 use Rattle.std.proofs.shelf.Elements.{all-getD, all-map, all-more}
@@ -10,7 +10,6 @@ use Rattle.std.proofs.shelf.Lists.{take-all}
 use Rattle.std.proofs.shelf.Signed.{ints}
 use Rattle.std.proofs.shelf.Tests.{false≢true}
 use Rattle.market.specs.Limits.{Position-limits}
-use Rattle.market.specs.declared.account.Account.{Account}
 use Rattle.settlement.specs.Entries.{block-entries}
 use Rattle.settlement.specs.Postings.{account-after, posted}
 use Rattle.settlement.specs.Sessions.{outcome-of}

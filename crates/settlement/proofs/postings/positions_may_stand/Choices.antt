@@ -1,4 +1,3 @@
-use lib.IntN.{_+ℤ_}
 use lib.ListN.{take}
 use Rattle.std.specs.shelf.Lists.{All}
 use Rattle.market.specs.Limits.{Position-limits}

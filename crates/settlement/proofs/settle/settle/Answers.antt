@@ -1,4 +1,4 @@
-use mathlib.Core.Path.{_≡_, refl, sym, ap, subst, _∙_}
+use mathlib.Core.Path.{refl, sym, ap, subst, _∙_}
 use mathlib.Core.List.{_++_}
 use Prim.Native.Nat.{_<_}
 use native.Mathlib.Nat.{zero-add}
@@ -10,7 +10,7 @@ use mir.Val.{toZ, ofZ}
 use Rattle.std.proofs.shelf.Signed.{toZ-ofZ}
 use Rattle.std.proofs.shelf.Tests.{false≢true}
 use Rattle.settlement.specs.Entries.{entries-of}
-use Rattle.settlement.specs.Postings.{Known-agents, Within-limits}
+use Rattle.settlement.specs.Postings.{Within-limits}
 use Rattle.settlement.specs.Sessions.{outcome-of}
 use Rattle.settlement.specs.Settling.{Reported}
 use Rattle.settlement.proofs.Adding.{adds-up}

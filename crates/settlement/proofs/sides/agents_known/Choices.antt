@@ -1,7 +1,7 @@
 use mathlib.Core.Bool.{true}
 use mathlib.Core.Path.{_≡_}
 use lib.IntN.{ℤ}
-use lib.ListN.{take, drop}
+use lib.ListN.{drop}
 use Rattle.std.specs.shelf.Lists.{All}
 use Rattle.settlement.specs.Entries.{side-entries}
 use Rattle.settlement.specs.Postings.{has-account}

@@ -2,13 +2,12 @@ use mathlib.Core.Path.{_≡_, sym, ap, _∙_}
 use mathlib.Core.List.{[], _∷_}
 use Prim.Native.Nat.{_<_}
 use native.Mathlib.Omega.{arith}
-use lib.IntN.{pos, _*ℤ_}
-use lib.ListN.{length, set}
+use lib.ListN.{length}
 use mir.Syntax.{w32, w64}
 use mir.Val.{toZ, ofZ}
 use Rattle.std.proofs.shelf.Signed.{ints, toZ-ofZ}
-use Rattle.settlement.specs.Entries.{due, entry, signed, written}
-use Rattle.settlement.specs.Rounding.{nearest-cent}
+use Rattle.settlement.specs.Entries.{due, entry}
+use Rattle.settlement.specs.Writing.{written}
 use Rattle.settlement.specs.declared.entry.Entry.{Entry}
 use Rattle.settlement.proofs.Rows.{entries-none, entries-one}
 use Rattle.settlement.proofs.Writes.{written-none, written-one}

@@ -1,5 +1,5 @@
-use mathlib.Core.Path.{_≡_, sym, ap, _∙_}
-use mathlib.Core.List.{[], _∷_, _++_}
+use mathlib.Core.Path.{sym, ap, _∙_}
+use mathlib.Core.List.{[], _∷_}
 use Prim.Native.Nat.{_+_, _≤_}
 use native.Mathlib.Omega.{arith}
 use lib.IntN.{ℤ}
@@ -8,7 +8,8 @@ use mir.Syntax.{w32}
 use mir.Val.{toZ, ofZ}
 use Rattle.std.proofs.shelf.Lists.{at-drop-all}
 use Rattle.std.proofs.shelf.Signed.{toZ-ofZ}
-use Rattle.settlement.specs.Entries.{side-entries, written}
+use Rattle.settlement.specs.Entries.{side-entries}
+use Rattle.settlement.specs.Writing.{written}
 use Rattle.settlement.proofs.Rows.{entries-step}
 use Rattle.settlement.proofs.Writes.{written-none, written-next}
 use Rattle.settlement.proofs.sides.write_side.Needs as need

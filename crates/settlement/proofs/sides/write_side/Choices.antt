@@ -1,7 +1,8 @@
 use mathlib.Core.Path.{_≡_}
 use Prim.Native.Nat.{_+_}
 use lib.ListN.{length, drop}
-use Rattle.settlement.specs.Entries.{side-entries, written}
+use Rattle.settlement.specs.Entries.{side-entries}
+use Rattle.settlement.specs.Writing.{written}
 use Rattle.settlement.proofs.sides.write_side.Given as given
 
 -- what is written, and what is left to write, make up the whole

@@ -1,11 +1,5 @@
-use mathlib.Core.Path.{_≡_, ap, _∙_}
 use native.Mathlib.Omega.{arith}
-use lib.IntN.{natAbs}
-use lib.ListN.{length}
-use Prim.Native.Nat.{_*_, _≤_}
 use Rattle.std.proofs.shelf.Signed.{ints}
-use Rattle.settlement.specs.Entries.{entries-of}
-use Rattle.settlement.specs.Postings.{residue-of}
 use Rattle.settlement.specs.Sessions.{outcome-of}
 use Rattle.settlement.proofs.Adding.{adds-up}
 use Rattle.settlement.proofs.session.ClearedSession.residue.Needs as need

@@ -2,12 +2,12 @@ use mathlib.Core.Path.{_≡_, sym, ap, _∙_}
 use mathlib.Core.List.{[], _∷_, _++_}
 use Prim.Native.Nat.{_+_, _≤_, _<_}
 use native.Mathlib.Omega.{arith}
-use lib.IntN.{pos, _*ℤ_, _-ℤ_}
-use lib.ListN.{length, length-append}
+use lib.ListN.{length}
 use mir.Syntax.{w64}
 use mir.Val.{toZ, ofZ}
 use Rattle.std.proofs.shelf.Signed.{ints}
-use Rattle.settlement.specs.Entries.{block-entries, entries-of, entry, income-due, written, zone-entries}
+use Rattle.settlement.specs.Entries.{entries-of, entry, income-due, zone-entries}
+use Rattle.settlement.specs.Writing.{written}
 use Rattle.settlement.specs.Sessions.{outcome-of}
 use Rattle.settlement.specs.declared.entry.Entry.{Entry}
 use Rattle.settlement.proofs.Parts.{block-parts, entry-parts, session-count}
@@ -20,14 +20,9 @@ write-next-requires c κs = omega (arith, session-count (outcome-of (c .args .se
 pub write-last-requires : need.write-last-requires
 write-last-requires c κs = omega (arith, session-count (outcome-of (c .args .self)), c .pre, c .write-next .ensures .next, c .write-next .kept .entries)
 
-pub index-entries-last : need.index-entries-last
-index-entries-last c =
+pub write-income-requires : need.write-income-requires
+write-income-requires c κs =
     omega (arith, session-count (outcome-of (c .args .self)), c .pre, c .write-next .ensures .next, c .write-next .kept .entries, c .write-last .ensures .next, c .write-last .kept .entries)
-
-pub offset-entries-last : need.offset-entries-last
-offset-entries-last c =
-    let room : c .write-last .result < length (c .args .entries .now) = omega (arith, session-count (outcome-of (c .args .self)), c .pre, c .write-next .ensures .next, c .write-last .ensures .next) in
-    omega (arith, room, c .good)
 
 pub returns : need.returns
 returns c =
@@ -40,5 +35,5 @@ returns c =
     let same : wrote ≡ entry (income-due o) = ap (λ z. record { agent = 0; unit = 0; number = 0; cents = z }) (out ∙ c .income .ensures .value) in
     let all : entries-of o ≡ (one ++ two) ++ entry (income-due o) ∷ [] = entry-parts o ∙ ap (λ es. es ++ entry (income-due o) ∷ []) (block-parts o) in
     let size : length one + length two + 1 ≤ length xs = omega (arith, session-count o, c .pre) in
-    written-three one two wrote xs (c .write-next .last .entries) (c .write-last .last .entries) (c .write-next .result) (c .write-last .result) size (c .write-next .ensures .entries) (c .write-next .ensures .next) (c .write-last .ensures .entries) (c .write-last .ensures .next)
+    c .write-income .ensures ∙ written-three one two wrote xs (c .write-next .last .entries) (c .write-last .last .entries) (c .write-next .result) (c .write-last .result) size (c .write-next .ensures .entries) (c .write-next .ensures .next) (c .write-last .ensures .entries) (c .write-last .ensures .next)
     ∙ ap (λ y. written 0 ((one ++ two) ++ y ∷ []) xs) same ∙ ap (λ es. written 0 es xs) (sym all)

@@ -1,6 +1,5 @@
-use mathlib.Core.Bool.{true, false}
+use mathlib.Core.Bool.{true}
 use mathlib.Core.Path.{_≡_}
-use lib.IntN.{ℤ}
 use Rattle.settlement.specs.Entries.{buying, selling, side-entries, zone-entries}
 use Rattle.settlement.specs.Postings.{has-account}
 use Rattle.settlement.specs.Sessions.{zone-of}

@@ -1,6 +1,4 @@
-use mathlib.Core.Path.{ap, _∙_}
 use native.Mathlib.Omega.{arith}
-use lib.ListN.{length}
 use Rattle.settlement.specs.Sessions.{zone-of}
 use Rattle.settlement.proofs.Parts.{zone-count}
 use Rattle.settlement.proofs.session.ClearedZone.matched_blocks.Needs as need

@@ -1,4 +1,4 @@
-use mathlib.Core.Path.{_≡_, sym, ap, _∙_}
+use mathlib.Core.Path.{sym, ap, _∙_}
 use Prim.Native.Nat.{_+_, _≤_}
 use borrow.Author.Needs.{needs}
 use native.Mathlib.Omega.{arith}
@@ -6,7 +6,8 @@ use lib.ListN.{length}
 use mir.Syntax.{w32}
 use mir.Val.{SFits, toZ, ofZ}
 use Rattle.std.proofs.shelf.Signed.{toZ-ofZ}
-use Rattle.settlement.specs.Entries.{buying, selling, side-entries, written}
+use Rattle.settlement.specs.Entries.{buying, selling, side-entries}
+use Rattle.settlement.specs.Writing.{written}
 use Rattle.settlement.specs.Sessions.{zone-of}
 use Rattle.settlement.proofs.Parts.{zone-length, zone-parts-at}
 use Rattle.settlement.proofs.Writes.{written-next}
