@@ -91,7 +91,10 @@ fn show_block<W: Write>(out: &mut W, zone: u8, side: &str, block: &Block) -> io:
         volume,
     } = block.bid;
     let matched = block.matched;
-    writeln!(out, "(block {zone} {side} ({agent} {unit} {number} {stamp} {price} {volume}) {matched})")
+    writeln!(
+        out,
+        "(block {zone} {side} ({agent} {unit} {number} {stamp} {price} {volume}) {matched})"
+    )
 }
 
 // The blocks of one zone in their order of precedence, each with what is matched of it.
@@ -105,13 +108,21 @@ fn show<W: Write>(out: &mut W, zone: u8, ladder: &Ladder) -> io::Result<()> {
     Ok(())
 }
 
-fn show_clearing<W: Write>(out: &mut W, low: &Clearing, high: &Clearing, ladders: &Ladders) -> io::Result<()> {
+fn show_clearing<W: Write>(
+    out: &mut W,
+    low: &Clearing,
+    high: &Clearing,
+    ladders: &Ladders,
+) -> io::Result<()> {
     let (one, two) = (low.price_one, low.price_two);
     let (above_one, above_two) = (high.price_one, high.price_two);
     let (flow, surplus) = (low.flow, low.surplus);
     writeln!(out, "(bracket 1 {one} {above_one})")?;
     writeln!(out, "(bracket 2 {two} {above_two})")?;
-    writeln!(out, "(cleared (price {one} {two}) (flow {flow}) (surplus {surplus}))")?;
+    writeln!(
+        out,
+        "(cleared (price {one} {two}) (flow {flow}) (surplus {surplus}))"
+    )?;
     show(out, 1, &ladders.one)?;
     show(out, 2, &ladders.two)
 }
@@ -124,8 +135,17 @@ impl<'a> Service for Desk<'a> as DeskService {
             None => None,
         };
         let done = match call {
-            Some(Call::Begin { session: _, forward, backward }) => answer(out, desk.begin(forward, backward)),
-            Some(Call::Enter { zone, side, bid }) => answer(out, desk.ladders.enter(zone, side, bid)),
+            Some(
+                Call::Begin {
+                    session: _,
+                    forward,
+                    backward,
+                },
+            ) => answer(out, desk.begin(forward, backward)),
+            Some(Call::Enter { zone, side, bid }) => answer(
+                out,
+                desk.ladders.enter(zone, side, bid),
+            ),
             Some(Call::Clear) => match desk.clear() {
                 Ok((low, high)) => show_clearing(out, &low, &high, &desk.ladders),
                 Err(why) => answer(out, Err(why)),

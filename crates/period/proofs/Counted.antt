@@ -23,10 +23,10 @@ book-counted ss ss′ ps ps′ n m d e = ap (λ x. book x (take m (ps ++ ps′))
 
 module _ (g : ℕ → ℕ → ℕ → ℕ) (f : ℤ → ℤ → ℤ) (forward backward : ℕ) (b₁ b₂ : Book) (p₁ p₂ e : ℤ) where
   pub clears-counted :
-    (s₁ s₁′ : List Sale) (q₁ q₁′ : List Purchase) (s₂ s₂′ : List Sale) (q₂ q₂′ : List Purchase) (n₁ m₁ n₂ m₂ : ℕ) →
-    length s₁ ≡ n₁ → length q₁ ≡ m₁ → length s₂ ≡ n₂ → length q₂ ≡ m₂ →
-    Clears g f forward backward b₁ b₂ (book s₁ q₁) (book s₂ q₂) p₁ p₂ e →
-    Clears g f forward backward b₁ b₂ (book (take n₁ (s₁ ++ s₁′)) (take m₁ (q₁ ++ q₁′))) (book (take n₂ (s₂ ++ s₂′)) (take m₂ (q₂ ++ q₂′))) p₁ p₂ e
+      (s₁ s₁′ : List Sale) (q₁ q₁′ : List Purchase) (s₂ s₂′ : List Sale) (q₂ q₂′ : List Purchase) (n₁ m₁ n₂ m₂ : ℕ) →
+      length s₁ ≡ n₁ → length q₁ ≡ m₁ → length s₂ ≡ n₂ → length q₂ ≡ m₂ →
+      Clears g f forward backward b₁ b₂ (book s₁ q₁) (book s₂ q₂) p₁ p₂ e →
+      Clears g f forward backward b₁ b₂ (book (take n₁ (s₁ ++ s₁′)) (take m₁ (q₁ ++ q₁′))) (book (take n₂ (s₂ ++ s₂′)) (take m₂ (q₂ ++ q₂′))) p₁ p₂ e
   clears-counted s₁ s₁′ q₁ q₁′ s₂ s₂′ q₂ q₂′ n₁ m₁ n₂ m₂ a b c d h =
       subst (λ x. Clears g f forward backward b₁ b₂ x (book (take n₂ (s₂ ++ s₂′)) (take m₂ (q₂ ++ q₂′))) p₁ p₂ e) (sym (book-counted s₁ s₁′ q₁ q₁′ n₁ m₁ a b))
       (subst (λ x. Clears g f forward backward b₁ b₂ (book s₁ q₁) x p₁ p₂ e) (sym (book-counted s₂ s₂′ q₂ q₂′ n₂ m₂ c d)) h)

@@ -126,7 +126,13 @@ pub fn clear_period<P: PriceRule, S: SharingRule>(
     match check(ladders, forward, backward) {
         Err(why) => Err(why),
         Ok(()) => {
-            Ok(clear_ladders(engine, &mut ladders.one, &mut ladders.two, forward, backward))
+            Ok(clear_ladders(
+                engine,
+                &mut ladders.one,
+                &mut ladders.two,
+                forward,
+                backward,
+            ))
         }
     }
 }
