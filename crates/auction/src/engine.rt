@@ -42,7 +42,7 @@ pub struct Clearing {
 
 // The zones cleared as one: whether the line carries their flow, their price, and the flow.
 #[derive(Clone, Copy)]
-pub struct Common {
+struct Common {
     pub line: Line,
     pub price: i32,
     pub flow: i64,

@@ -2,18 +2,18 @@
 ghost use Rattle.auction.specs.Best.{Amount-found, Clearing-is-best, Tenths-placed};
 ghost use Rattle.auction.specs.Worked.{Worked-results};
 
-pub mod bracket;
-pub mod crossing;
+mod bracket;
+mod crossing;
 pub mod engine;
-pub mod fill;
-pub mod line;
-pub mod merge;
-pub mod offer;
-pub mod pool;
-pub mod row;
-pub mod side;
-pub mod sums;
-pub mod zones;
+mod fill;
+mod line;
+mod merge;
+mod offer;
+mod pool;
+mod row;
+mod side;
+mod sums;
+mod zones;
 
 // The downward search finds where the curves meet.
 pub fn amount_found() -> u8
