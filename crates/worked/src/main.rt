@@ -1,4 +1,8 @@
 // Runs the worked results of docs/WORKED.md that need no call file, and says whether all of them come out.
+ghost use mathlib.Core.Bool.{true};
+ghost use mathlib.Core.Path.{_≡_};
+ghost use Rattle.worked.specs.All.{All-worked};
+
 mod cases;
 
 use auction::engine::Clearing;
@@ -111,6 +115,13 @@ fn comes_out(case: &Case, lots: &[Lot], ladders: &mut Ladders) -> bool {
     }
 }
 
+// The definitions give all of them.
+fn definitions_agree() -> bool
+    ensures { λ r. ⌜ All-worked × (r ≡ true) ⌝ }
+{
+    true
+}
+
 // The midpoint of −3 and 0, and the rounding of halves.
 fn numbers_come_out() -> bool {
     Midpoint.price(-3, 0) == -2
@@ -131,7 +142,7 @@ fn main(rt: LibcRuntime) -> Result<(), AnyError> {
             matched: 0,
         },
     ));
-    let mut all = numbers_come_out();
+    let mut all = definitions_agree() && numbers_come_out();
     for (i, case) in CASES.iter().enumerate() {
         let mut sales_one = vec![in heap; Sale { block }; PLACES]?;
         let mut purchases_one = vec![in heap; Purchase { block }; PLACES]?;
