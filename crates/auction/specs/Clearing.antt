@@ -24,6 +24,7 @@ pub record Pool : Type 0 where
   pub brought : ℕ
   pub taken : ℕ
 
+-- the two curves, and where they meet
 abbrev pub supply : Pool → List ℤ
 supply x = behind (x .brought) lowest-price (x .sales)
 
@@ -38,7 +39,7 @@ pub record Room (x : Pool) : Type 0 where
   pub brings : x .brought ≤ matched-amount x
   pub takes : x .taken ≤ matched-amount x
 
--- the two zones as one, and a zone alone that exports k tenths or imports them
+-- the two zones as one
 abbrev pub together : Book → Book → Pool
 together b₁ b₂ = record { sales = merged of-sales (b₁ .sales) (b₂ .sales); purchases = merged of-purchases (b₁ .purchases) (b₂ .purchases); brought = 0; taken = 0 }
 
@@ -46,12 +47,14 @@ together b₁ b₂ = record { sales = merged of-sales (b₁ .sales) (b₂ .sales
 abbrev pub zone-pool : Zone → Book → ℕ → ℕ → Pool
 zone-pool z b n m = record { sales = alone z (b .sales); purchases = alone z (b .purchases); brought = n; taken = m }
 
+-- a zone that exports k tenths, and one that imports them
 abbrev pub exporting : Zone → ℕ → Book → Pool
 exporting z k b = zone-pool z b 0 k
 
 abbrev pub importing : Zone → ℕ → Book → Pool
 importing z k b = zone-pool z b k 0
 
+-- the blocks of a zone, with what is matched of each
 abbrev pub book-of : Zone → Pool → Book
 book-of z x = record { sales = part z (x .sales); purchases = part z (x .purchases) }
 
@@ -59,6 +62,7 @@ book-of z x = record { sales = part z (x .sales); purchases = part z (x .purchas
 unfoldable pub line : ℕ → ℕ → ℤ → Line
 line cap₁₂ cap₂₁ f = cond (leZ f (pos cap₁₂)) (cond (leZ (negℤ f) (pos cap₂₁)) Enough Back) There
 
+-- what a clearing gives
 pub record Outcome : Type 0 where
   pub schedule : Schedule
   pub flow-out : ℤ

@@ -1,10 +1,12 @@
-// The worked results of docs/WORKED.md that need no call file, as data: blocks with what each gets, capacities, prices, flow, surplus.
+// The worked results that need no call file, as data: the cases that the definitions are proved to give, by the same names.
 use market::zone::Side;
 
+// The price rule and the sharing rule of a case.
 #[derive(Clone, Copy)]
-pub enum Sharing {
-    Precedence,
-    Proportion,
+pub enum Rules {
+    LowEndByPrecedence,
+    LowEndInProportion,
+    MidpointByPrecedence,
 }
 
 // A block of volume `volume` at `price`, of which `matched` is matched.
@@ -21,7 +23,7 @@ pub struct Lot {
 #[derive(Clone, Copy)]
 pub struct Case {
     pub name: &'static str,
-    pub sharing: Sharing,
+    pub rules: Rules,
     pub forward: u32,
     pub backward: u32,
     pub price_one: i32,
@@ -36,7 +38,7 @@ static MEETING_PRICE: [Lot; 2] = [
     Lot {
         zone: 1,
         side: Side::Sale,
-        unit: 11,
+        unit: 1,
         price: 3000,
         volume: 10,
         matched: 10,
@@ -44,7 +46,7 @@ static MEETING_PRICE: [Lot; 2] = [
     Lot {
         zone: 1,
         side: Side::Purchase,
-        unit: 21,
+        unit: 1,
         price: 3000,
         volume: 10,
         matched: 10,
@@ -55,7 +57,7 @@ static ONE_CENT_APART: [Lot; 2] = [
     Lot {
         zone: 1,
         side: Side::Sale,
-        unit: 11,
+        unit: 1,
         price: 3001,
         volume: 10,
         matched: 0,
@@ -63,18 +65,18 @@ static ONE_CENT_APART: [Lot; 2] = [
     Lot {
         zone: 1,
         side: Side::Purchase,
-        unit: 21,
+        unit: 1,
         price: 3000,
         volume: 10,
         matched: 0,
     },
 ];
 
-static UNCONGESTED_TRADE: [Lot; 5] = [
+static UNCONGESTED: [Lot; 5] = [
     Lot {
         zone: 1,
         side: Side::Sale,
-        unit: 11,
+        unit: 1,
         price: 2000,
         volume: 100,
         matched: 100,
@@ -82,7 +84,7 @@ static UNCONGESTED_TRADE: [Lot; 5] = [
     Lot {
         zone: 1,
         side: Side::Sale,
-        unit: 12,
+        unit: 2,
         price: 4000,
         volume: 80,
         matched: 60,
@@ -90,7 +92,7 @@ static UNCONGESTED_TRADE: [Lot; 5] = [
     Lot {
         zone: 1,
         side: Side::Purchase,
-        unit: 21,
+        unit: 1,
         price: 6000,
         volume: 60,
         matched: 60,
@@ -98,7 +100,7 @@ static UNCONGESTED_TRADE: [Lot; 5] = [
     Lot {
         zone: 2,
         side: Side::Sale,
-        unit: 13,
+        unit: 1,
         price: 5000,
         volume: 50,
         matched: 0,
@@ -106,18 +108,18 @@ static UNCONGESTED_TRADE: [Lot; 5] = [
     Lot {
         zone: 2,
         side: Side::Purchase,
-        unit: 22,
+        unit: 1,
         price: 7000,
         volume: 100,
         matched: 100,
     },
 ];
 
-static ONE_TENTH_SHORT_OF_CAPACITY: [Lot; 5] = [
+static ONE_TENTH_SHORT: [Lot; 5] = [
     Lot {
         zone: 1,
         side: Side::Sale,
-        unit: 11,
+        unit: 1,
         price: 2000,
         volume: 100,
         matched: 100,
@@ -125,7 +127,7 @@ static ONE_TENTH_SHORT_OF_CAPACITY: [Lot; 5] = [
     Lot {
         zone: 1,
         side: Side::Sale,
-        unit: 12,
+        unit: 2,
         price: 4000,
         volume: 80,
         matched: 59,
@@ -133,7 +135,7 @@ static ONE_TENTH_SHORT_OF_CAPACITY: [Lot; 5] = [
     Lot {
         zone: 1,
         side: Side::Purchase,
-        unit: 21,
+        unit: 1,
         price: 6000,
         volume: 60,
         matched: 60,
@@ -141,7 +143,7 @@ static ONE_TENTH_SHORT_OF_CAPACITY: [Lot; 5] = [
     Lot {
         zone: 2,
         side: Side::Sale,
-        unit: 13,
+        unit: 1,
         price: 5000,
         volume: 50,
         matched: 1,
@@ -149,18 +151,18 @@ static ONE_TENTH_SHORT_OF_CAPACITY: [Lot; 5] = [
     Lot {
         zone: 2,
         side: Side::Purchase,
-        unit: 22,
+        unit: 1,
         price: 7000,
         volume: 100,
         matched: 100,
     },
 ];
 
-static CONGESTED_TRADE: [Lot; 5] = [
+static CONGESTED: [Lot; 5] = [
     Lot {
         zone: 1,
         side: Side::Sale,
-        unit: 11,
+        unit: 1,
         price: 2000,
         volume: 100,
         matched: 90,
@@ -168,7 +170,7 @@ static CONGESTED_TRADE: [Lot; 5] = [
     Lot {
         zone: 1,
         side: Side::Sale,
-        unit: 12,
+        unit: 2,
         price: 4000,
         volume: 80,
         matched: 0,
@@ -176,7 +178,7 @@ static CONGESTED_TRADE: [Lot; 5] = [
     Lot {
         zone: 1,
         side: Side::Purchase,
-        unit: 21,
+        unit: 1,
         price: 6000,
         volume: 60,
         matched: 60,
@@ -184,7 +186,7 @@ static CONGESTED_TRADE: [Lot; 5] = [
     Lot {
         zone: 2,
         side: Side::Sale,
-        unit: 13,
+        unit: 1,
         price: 5000,
         volume: 50,
         matched: 50,
@@ -192,14 +194,14 @@ static CONGESTED_TRADE: [Lot; 5] = [
     Lot {
         zone: 2,
         side: Side::Purchase,
-        unit: 22,
+        unit: 1,
         price: 7000,
         volume: 100,
         matched: 80,
     },
 ];
 
-static SHARED_TIE_IN_PROPORTION: [Lot; 4] = [
+static SHARED_TIE: [Lot; 4] = [
     Lot {
         zone: 1,
         side: Side::Sale,
@@ -227,14 +229,14 @@ static SHARED_TIE_IN_PROPORTION: [Lot; 4] = [
     Lot {
         zone: 1,
         side: Side::Purchase,
-        unit: 4,
+        unit: 1,
         price: 20,
         volume: 50,
         matched: 50,
     },
 ];
 
-static SHARED_TIE_BY_PRECEDENCE: [Lot; 4] = [
+static TIE_IN_PRECEDENCE: [Lot; 4] = [
     Lot {
         zone: 1,
         side: Side::Sale,
@@ -262,14 +264,14 @@ static SHARED_TIE_BY_PRECEDENCE: [Lot; 4] = [
     Lot {
         zone: 1,
         side: Side::Purchase,
-        unit: 4,
+        unit: 1,
         price: 20,
         volume: 50,
         matched: 50,
     },
 ];
 
-static TIE_WITH_A_REMAINDER: [Lot; 4] = [
+static TIE_WITH_REMAINDER: [Lot; 4] = [
     Lot {
         zone: 1,
         side: Side::Sale,
@@ -297,14 +299,14 @@ static TIE_WITH_A_REMAINDER: [Lot; 4] = [
     Lot {
         zone: 1,
         side: Side::Purchase,
-        unit: 4,
+        unit: 1,
         price: 20,
         volume: 2,
         matched: 2,
     },
 ];
 
-static TIE_BEHIND_THE_TENTHS_OF_THE_LINE: [Lot; 5] = [
+static TIE_BEHIND_TENTHS: [Lot; 5] = [
     Lot {
         zone: 1,
         side: Side::Sale,
@@ -347,7 +349,7 @@ static TIE_BEHIND_THE_TENTHS_OF_THE_LINE: [Lot; 5] = [
     },
 ];
 
-static PURCHASES_AT_THE_LIMIT_BESIDE_THE_TENTHS_OF_THE_LINE: [Lot; 5] = [
+static PURCHASE_AT_LIMIT: [Lot; 5] = [
     Lot {
         zone: 1,
         side: Side::Sale,
@@ -390,17 +392,52 @@ static PURCHASES_AT_THE_LIMIT_BESIDE_THE_TENTHS_OF_THE_LINE: [Lot; 5] = [
     },
 ];
 
-static TIE_ACROSS_ZONES: [Lot; 4] = [
+static SALE_AT_LIMIT: [Lot; 5] = [
     Lot {
         zone: 1,
         side: Side::Sale,
         unit: 1,
-        price: 10,
+        price: -50000,
+        volume: 5,
+        matched: 5,
+    },
+    Lot {
+        zone: 1,
+        side: Side::Sale,
+        unit: 2,
+        price: 80,
         volume: 3,
         matched: 2,
     },
     Lot {
+        zone: 1,
+        side: Side::Purchase,
+        unit: 1,
+        price: 100,
+        volume: 9,
+        matched: 9,
+    },
+    Lot {
         zone: 2,
+        side: Side::Sale,
+        unit: 1,
+        price: -50000,
+        volume: 9,
+        matched: 3,
+    },
+    Lot {
+        zone: 2,
+        side: Side::Purchase,
+        unit: 1,
+        price: 50,
+        volume: 1,
+        matched: 1,
+    },
+];
+
+static TIE_ACROSS_ZONES: [Lot; 4] = [
+    Lot {
+        zone: 1,
         side: Side::Sale,
         unit: 1,
         price: 10,
@@ -417,6 +454,14 @@ static TIE_ACROSS_ZONES: [Lot; 4] = [
     },
     Lot {
         zone: 2,
+        side: Side::Sale,
+        unit: 1,
+        price: 10,
+        volume: 3,
+        matched: 2,
+    },
+    Lot {
+        zone: 2,
         side: Side::Purchase,
         unit: 1,
         price: 20,
@@ -425,53 +470,177 @@ static TIE_ACROSS_ZONES: [Lot; 4] = [
     },
 ];
 
-static FLOW_FROM_ZONE_2_TO_ZONE_1: [Lot; 5] = [
+static TIE_ACROSS_ZONES_IN_PRECEDENCE: [Lot; 4] = [
     Lot {
-        zone: 2,
+        zone: 1,
         side: Side::Sale,
-        unit: 11,
-        price: 2000,
-        volume: 100,
-        matched: 90,
+        unit: 1,
+        price: 10,
+        volume: 3,
+        matched: 3,
+    },
+    Lot {
+        zone: 1,
+        side: Side::Purchase,
+        unit: 1,
+        price: 20,
+        volume: 1,
+        matched: 1,
     },
     Lot {
         zone: 2,
         side: Side::Sale,
-        unit: 12,
-        price: 4000,
-        volume: 80,
+        unit: 1,
+        price: 10,
+        volume: 3,
+        matched: 1,
+    },
+    Lot {
+        zone: 2,
+        side: Side::Purchase,
+        unit: 1,
+        price: 20,
+        volume: 3,
+        matched: 3,
+    },
+];
+
+static NO_LINE: [Lot; 4] = [
+    Lot {
+        zone: 1,
+        side: Side::Sale,
+        unit: 1,
+        price: 10,
+        volume: 3,
+        matched: 1,
+    },
+    Lot {
+        zone: 1,
+        side: Side::Purchase,
+        unit: 1,
+        price: 20,
+        volume: 1,
+        matched: 1,
+    },
+    Lot {
+        zone: 2,
+        side: Side::Sale,
+        unit: 1,
+        price: 5,
+        volume: 3,
+        matched: 3,
+    },
+    Lot {
+        zone: 2,
+        side: Side::Purchase,
+        unit: 1,
+        price: 40,
+        volume: 4,
+        matched: 3,
+    },
+];
+
+static ONE_SIDE_EMPTY: [Lot; 2] = [
+    Lot {
+        zone: 1,
+        side: Side::Sale,
+        unit: 1,
+        price: 10,
+        volume: 3,
+        matched: 1,
+    },
+    Lot {
+        zone: 2,
+        side: Side::Purchase,
+        unit: 1,
+        price: 40,
+        volume: 2,
+        matched: 1,
+    },
+];
+
+static FLOW_BACK: [Lot; 5] = [
+    Lot {
+        zone: 1,
+        side: Side::Sale,
+        unit: 1,
+        price: 90,
+        volume: 5,
+        matched: 4,
+    },
+    Lot {
+        zone: 1,
+        side: Side::Purchase,
+        unit: 1,
+        price: 100,
+        volume: 6,
+        matched: 6,
+    },
+    Lot {
+        zone: 2,
+        side: Side::Sale,
+        unit: 1,
+        price: 10,
+        volume: 4,
+        matched: 3,
+    },
+    Lot {
+        zone: 2,
+        side: Side::Sale,
+        unit: 2,
+        price: 95,
+        volume: 2,
         matched: 0,
     },
     Lot {
         zone: 2,
         side: Side::Purchase,
-        unit: 21,
-        price: 6000,
-        volume: 60,
-        matched: 60,
+        unit: 1,
+        price: 50,
+        volume: 1,
+        matched: 1,
     },
+];
+
+static APART_IN_BOTH_ZONES: [Lot; 4] = [
     Lot {
         zone: 1,
         side: Side::Sale,
-        unit: 13,
-        price: 5000,
-        volume: 50,
-        matched: 50,
+        unit: 1,
+        price: 30,
+        volume: 3,
+        matched: 0,
     },
     Lot {
         zone: 1,
         side: Side::Purchase,
-        unit: 22,
-        price: 7000,
-        volume: 100,
-        matched: 80,
+        unit: 1,
+        price: 20,
+        volume: 1,
+        matched: 0,
+    },
+    Lot {
+        zone: 2,
+        side: Side::Sale,
+        unit: 1,
+        price: 25,
+        volume: 3,
+        matched: 0,
+    },
+    Lot {
+        zone: 2,
+        side: Side::Purchase,
+        unit: 1,
+        price: 10,
+        volume: 4,
+        matched: 0,
     },
 ];
 
-pub static CASES: [Case; 13] = [
+pub static CASES: [Case; 18] = [
     Case {
         name: "empty market",
-        sharing: Sharing::Precedence,
+        rules: Rules::LowEndByPrecedence,
         forward: 0,
         backward: 0,
         price_one: -50000,
@@ -481,7 +650,7 @@ pub static CASES: [Case; 13] = [
     },
     Case {
         name: "meeting price",
-        sharing: Sharing::Precedence,
+        rules: Rules::LowEndByPrecedence,
         forward: 0,
         backward: 0,
         price_one: 3000,
@@ -491,7 +660,7 @@ pub static CASES: [Case; 13] = [
     },
     Case {
         name: "one cent apart",
-        sharing: Sharing::Precedence,
+        rules: Rules::LowEndByPrecedence,
         forward: 0,
         backward: 0,
         price_one: 3000,
@@ -500,8 +669,8 @@ pub static CASES: [Case; 13] = [
         surplus: 0,
     },
     Case {
-        name: "uncongested trade",
-        sharing: Sharing::Precedence,
+        name: "uncongested",
+        rules: Rules::LowEndByPrecedence,
         forward: 100,
         backward: 0,
         price_one: 4000,
@@ -510,8 +679,8 @@ pub static CASES: [Case; 13] = [
         surplus: 620000,
     },
     Case {
-        name: "one tenth short of capacity",
-        sharing: Sharing::Precedence,
+        name: "one tenth short",
+        rules: Rules::LowEndByPrecedence,
         forward: 99,
         backward: 0,
         price_one: 4000,
@@ -520,8 +689,8 @@ pub static CASES: [Case; 13] = [
         surplus: 619000,
     },
     Case {
-        name: "congested trade",
-        sharing: Sharing::Precedence,
+        name: "congested",
+        rules: Rules::LowEndByPrecedence,
         forward: 30,
         backward: 0,
         price_one: 2000,
@@ -530,8 +699,8 @@ pub static CASES: [Case; 13] = [
         surplus: 490000,
     },
     Case {
-        name: "shared tie in proportion",
-        sharing: Sharing::Proportion,
+        name: "shared tie",
+        rules: Rules::LowEndInProportion,
         forward: 0,
         backward: 0,
         price_one: 10,
@@ -540,8 +709,8 @@ pub static CASES: [Case; 13] = [
         surplus: 500,
     },
     Case {
-        name: "shared tie by precedence",
-        sharing: Sharing::Precedence,
+        name: "tie in precedence",
+        rules: Rules::LowEndByPrecedence,
         forward: 0,
         backward: 0,
         price_one: 10,
@@ -550,8 +719,8 @@ pub static CASES: [Case; 13] = [
         surplus: 500,
     },
     Case {
-        name: "tie with a remainder",
-        sharing: Sharing::Proportion,
+        name: "tie with remainder",
+        rules: Rules::LowEndInProportion,
         forward: 0,
         backward: 0,
         price_one: 10,
@@ -560,8 +729,8 @@ pub static CASES: [Case; 13] = [
         surplus: 20,
     },
     Case {
-        name: "tie behind the tenths of the line",
-        sharing: Sharing::Proportion,
+        name: "tie behind tenths",
+        rules: Rules::LowEndInProportion,
         forward: 2,
         backward: 0,
         price_one: 50,
@@ -570,8 +739,8 @@ pub static CASES: [Case; 13] = [
         surplus: 260,
     },
     Case {
-        name: "purchases at the limit beside the tenths of the line",
-        sharing: Sharing::Proportion,
+        name: "purchase at limit",
+        rules: Rules::LowEndInProportion,
         forward: 2,
         backward: 0,
         price_one: 300000,
@@ -580,8 +749,18 @@ pub static CASES: [Case; 13] = [
         surplus: 599980,
     },
     Case {
+        name: "sale at limit",
+        rules: Rules::LowEndInProportion,
+        forward: 0,
+        backward: 2,
+        price_one: 80,
+        price_two: -50000,
+        flow: -2,
+        surplus: 400790,
+    },
+    Case {
         name: "tie across zones",
-        sharing: Sharing::Proportion,
+        rules: Rules::LowEndInProportion,
         forward: 9,
         backward: 9,
         price_one: 10,
@@ -590,14 +769,54 @@ pub static CASES: [Case; 13] = [
         surplus: 40,
     },
     Case {
-        name: "flow from zone 2 to zone 1",
-        sharing: Sharing::Precedence,
+        name: "tie across zones in precedence",
+        rules: Rules::LowEndByPrecedence,
+        forward: 9,
+        backward: 9,
+        price_one: 10,
+        price_two: 10,
+        flow: 2,
+        surplus: 40,
+    },
+    Case {
+        name: "no line",
+        rules: Rules::LowEndByPrecedence,
         forward: 0,
-        backward: 30,
-        price_one: 7000,
-        price_two: 2000,
-        flow: -30,
-        surplus: 490000,
+        backward: 0,
+        price_one: 10,
+        price_two: 40,
+        flow: 0,
+        surplus: 115,
+    },
+    Case {
+        name: "one side empty",
+        rules: Rules::LowEndByPrecedence,
+        forward: 1,
+        backward: 0,
+        price_one: 10,
+        price_two: 40,
+        flow: 1,
+        surplus: 30,
+    },
+    Case {
+        name: "flow back",
+        rules: Rules::LowEndByPrecedence,
+        forward: 0,
+        backward: 2,
+        price_one: 90,
+        price_two: 10,
+        flow: -2,
+        surplus: 260,
+    },
+    Case {
+        name: "apart in both zones",
+        rules: Rules::MidpointByPrecedence,
+        forward: 5,
+        backward: 5,
+        price_one: 22,
+        price_two: 22,
+        flow: 0,
+        surplus: 0,
     },
 ];
 
@@ -607,15 +826,20 @@ pub fn lots_of(case: usize) -> &'static [Lot] {
         0 => &EMPTY_MARKET,
         1 => &MEETING_PRICE,
         2 => &ONE_CENT_APART,
-        3 => &UNCONGESTED_TRADE,
-        4 => &ONE_TENTH_SHORT_OF_CAPACITY,
-        5 => &CONGESTED_TRADE,
-        6 => &SHARED_TIE_IN_PROPORTION,
-        7 => &SHARED_TIE_BY_PRECEDENCE,
-        8 => &TIE_WITH_A_REMAINDER,
-        9 => &TIE_BEHIND_THE_TENTHS_OF_THE_LINE,
-        10 => &PURCHASES_AT_THE_LIMIT_BESIDE_THE_TENTHS_OF_THE_LINE,
-        11 => &TIE_ACROSS_ZONES,
-        _ => &FLOW_FROM_ZONE_2_TO_ZONE_1,
+        3 => &UNCONGESTED,
+        4 => &ONE_TENTH_SHORT,
+        5 => &CONGESTED,
+        6 => &SHARED_TIE,
+        7 => &TIE_IN_PRECEDENCE,
+        8 => &TIE_WITH_REMAINDER,
+        9 => &TIE_BEHIND_TENTHS,
+        10 => &PURCHASE_AT_LIMIT,
+        11 => &SALE_AT_LIMIT,
+        12 => &TIE_ACROSS_ZONES,
+        13 => &TIE_ACROSS_ZONES_IN_PRECEDENCE,
+        14 => &NO_LINE,
+        15 => &ONE_SIDE_EMPTY,
+        16 => &FLOW_BACK,
+        _ => &APART_IN_BOTH_ZONES,
     }
 }

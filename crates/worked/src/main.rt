@@ -10,7 +10,7 @@ use auction::engine::Engine;
 use cases::CASES;
 use cases::Case;
 use cases::Lot;
-use cases::Sharing;
+use cases::Rules;
 use cases::lots_of;
 use ladders::ladders::Ladder;
 use ladders::ladders::Ladders;
@@ -45,6 +45,11 @@ const BY_PRECEDENCE: Engine<LowEnd, ByPrecedence> = Engine {
 const IN_PROPORTION: Engine<LowEnd, InProportion> = Engine {
     price_rule: LowEnd,
     sharing_rule: InProportion,
+};
+
+const AT_MIDPOINT: Engine<Midpoint, ByPrecedence> = Engine {
+    price_rule: Midpoint,
+    sharing_rule: ByPrecedence,
 };
 
 fn bid_of(lot: &Lot) -> Bid {
@@ -90,9 +95,25 @@ fn all_matched(ladders: &Ladders, lots: &[Lot]) -> bool {
 }
 
 fn clear(case: &Case, ladders: &mut Ladders) -> Result<Clearing, Refusal> {
-    match case.sharing {
-        Sharing::Precedence => clear_period(&BY_PRECEDENCE, ladders, case.forward, case.backward),
-        Sharing::Proportion => clear_period(&IN_PROPORTION, ladders, case.forward, case.backward),
+    match case.rules {
+        Rules::LowEndByPrecedence => clear_period(
+            &BY_PRECEDENCE,
+            ladders,
+            case.forward,
+            case.backward,
+        ),
+        Rules::LowEndInProportion => clear_period(
+            &IN_PROPORTION,
+            ladders,
+            case.forward,
+            case.backward,
+        ),
+        Rules::MidpointByPrecedence => clear_period(
+            &AT_MIDPOINT,
+            ladders,
+            case.forward,
+            case.backward,
+        ),
     }
 }
 

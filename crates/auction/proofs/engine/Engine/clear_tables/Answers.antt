@@ -55,7 +55,7 @@ clear-alone-one-requires g c κs =
     let room = room-there m f (c .args .forward) (c .args .backward) b₁ b₂ (c .clear-common-common .result .line) (c .clear-common-common .result .price) (c .clear-common-common .result .flow) (c .clear-common-common .ensures .found) b₁ b₂ shares s₁ s₂ (c .in-There .is) in
     record {
       tables = sound-same (c .args .sales-one .now) (c .clear-common-common .last .sales-one) (c .args .purchases-one .now) (c .clear-common-common .last .purchases-one) (kept .0) (kept .1) (c .pre .one);
-      carried = (omega arith, c .pre .capacities .0);
+      carried = (omega (arith, c .pre .capacities), omega (arith, c .pre .capacities));
       room = room-same One (c .args .sales-one .now) (c .clear-common-common .last .sales-one) (c .args .purchases-one .now) (c .clear-common-common .last .purchases-one) _ _ (kept .0) (kept .1) (room .0);
     }
 
@@ -72,7 +72,7 @@ clear-alone-two-requires g c κs =
     let room = room-there m f (c .args .forward) (c .args .backward) b₁ b₂ (c .clear-common-common .result .line) (c .clear-common-common .result .price) (c .clear-common-common .result .flow) (c .clear-common-common .ensures .found) b₁ b₂ shares s₁ s₂ (c .in-There .is) in
     record {
       tables = sound-same (c .args .sales-two .now) (c .clear-common-common .last .sales-two) (c .args .purchases-two .now) (c .clear-common-common .last .purchases-two) (kept .2) (kept .3) (c .pre .two);
-      carried = (c .pre .capacities .0, omega arith);
+      carried = (omega (arith, c .pre .capacities), omega (arith, c .pre .capacities));
       room = room-same Two (c .args .sales-two .now) (c .clear-common-common .last .sales-two) (c .args .purchases-two .now) (c .clear-common-common .last .purchases-two) _ _ (kept .2) (kept .3) (room .1);
     }
 
@@ -89,7 +89,7 @@ clear-alone-one-requires-in-Back g c κs =
     let room = room-back m f (c .args .forward) (c .args .backward) b₁ b₂ (c .clear-common-common .result .line) (c .clear-common-common .result .price) (c .clear-common-common .result .flow) (c .clear-common-common .ensures .found) b₁ b₂ shares s₁ s₂ (c .in-Back .is) in
     record {
       tables = sound-same (c .args .sales-one .now) (c .clear-common-common .last .sales-one) (c .args .purchases-one .now) (c .clear-common-common .last .purchases-one) (kept .0) (kept .1) (c .pre .one);
-      carried = (c .pre .capacities .1, omega arith);
+      carried = (omega (arith, c .pre .capacities), omega (arith, c .pre .capacities));
       room = room-same One (c .args .sales-one .now) (c .clear-common-common .last .sales-one) (c .args .purchases-one .now) (c .clear-common-common .last .purchases-one) _ _ (kept .0) (kept .1) (room .0);
     }
 
@@ -106,7 +106,7 @@ clear-alone-two-requires-in-Back g c κs =
     let room = room-back m f (c .args .forward) (c .args .backward) b₁ b₂ (c .clear-common-common .result .line) (c .clear-common-common .result .price) (c .clear-common-common .result .flow) (c .clear-common-common .ensures .found) b₁ b₂ shares s₁ s₂ (c .in-Back .is) in
     record {
       tables = sound-same (c .args .sales-two .now) (c .clear-common-common .last .sales-two) (c .args .purchases-two .now) (c .clear-common-common .last .purchases-two) (kept .2) (kept .3) (c .pre .two);
-      carried = (omega arith, c .pre .capacities .1);
+      carried = (omega (arith, c .pre .capacities), omega (arith, c .pre .capacities));
       room = room-same Two (c .args .sales-two .now) (c .clear-common-common .last .sales-two) (c .args .purchases-two .now) (c .clear-common-common .last .purchases-two) _ _ (kept .2) (kept .3) (room .1);
     }
 
