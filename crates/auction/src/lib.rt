@@ -1,4 +1,6 @@
 // Clearing one period of two zones.
+#![tactic(auto)]
+
 ghost use Rattle.auction.specs.Best.{AmountFound, ClearingIsBest, TenthsPlaced};
 ghost use Rattle.auction.specs.Worked.{WorkedResults};
 

@@ -1,5 +1,7 @@
 // Reads begin, enter and clear lines from standard input and shows each clearing: brackets, prices, flow, surplus, and what is matched
 // of each block (docs/CALLS.md).
+#![tactic(auto)]
+
 mod high_end;
 
 use auction::engine::{Clearing, Engine};

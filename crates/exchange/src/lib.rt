@@ -1,4 +1,6 @@
 // The exchange: four states, eight calls, and what holds of every run (docs/MARKET.md, docs/REFUSALS.md).
+#![tactic(auto)]
+
 mod applying;
 pub mod exchange;
 mod results;

@@ -1,4 +1,6 @@
 // Reads enter lines from standard input, answers each, and prints the ladders at the end of the input (docs/CALLS.md).
+#![tactic(auto)]
+
 ghost use Rattle.ladders.specs.Ladders.{Answering};
 ghost use Rattle.market.specs.declared.refusal.Refusal.{Refusal};
 ghost use Rattle.std.specs.Prelude.{Result};

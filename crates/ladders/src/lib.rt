@@ -1,2 +1,4 @@
 // The ladders of blocks: for each zone and side the blocks in their order of precedence.
+#![tactic(auto)]
+
 pub mod ladders;

@@ -1,4 +1,6 @@
 // The words of the market: zones, sides, bids, blocks, accounts, calls and refusals (docs/MARKET.md).
+#![tactic(auto)]
+
 pub mod account;
 pub mod block;
 pub mod call;

@@ -1,4 +1,6 @@
 // Clearing one period over the ladders of the two zones, or refusing it.
+#![tactic(auto)]
+
 ghost use Rattle.std.specs.Prelude.{◌≡◌, ◌≤◌, length, Decides, OnOk};
 ghost use Rattle.market.specs.Refusals.{FirstCause};
 ghost use Rattle.auction.specs.Best.{ClearedWell};

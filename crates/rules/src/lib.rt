@@ -1,4 +1,6 @@
 // The rules that an exchange chooses: how a price is taken from a bracket, and how an amount is shared along a tie.
+#![tactic(auto)]
+
 pub mod price;
 pub mod sharing;
 

@@ -1,4 +1,6 @@
 // Lines from an input, each answered on an output. Memory does not grow with the input, nor with a line.
+#![tactic(auto)]
+
 ghost use Rattle.std.specs.Prelude.{◌≡◌, ℕ, List, [], ◌∷◌, Option, OnOk};
 ghost use Rattle.std.specs.Option.{option_map};
 ghost use Rattle.callfile.specs.Gathering.{gathered};

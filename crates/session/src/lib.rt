@@ -1,5 +1,7 @@
 // What an exchange holds besides its state: the ledger that it carries, the session that is open, and the calls on their tables
 // (docs/MARKET.md, docs/REFUSALS.md).
+#![tactic(auto)]
+
 pub mod capacities;
 pub mod counted;
 pub mod ledger;

@@ -1,5 +1,7 @@
 // Settling a cleared session: entries in whole cents, the accounts that they are posted to, and what rounding leaves over
 // (docs/MARKET.md). The tables are taken as counted slices; their limits and their order are checked elsewhere.
+#![tactic(auto)]
+
 mod accounts;
 mod amount;
 pub mod entry;

@@ -1,4 +1,6 @@
 // An ordered table over a lent slice, for every kind of record that has a key and a precedence.
+#![tactic(auto)]
+
 pub mod fault;
 pub mod record;
 mod slices;

@@ -1,4 +1,6 @@
 // Reads a call file from standard input and answers it, line by line, from a new exchange (docs/CALLS.md).
+#![tactic(auto)]
+
 use auction::engine::Engine;
 use exchange::exchange::Exchange;
 use exchange::state::Idle;

@@ -1,4 +1,6 @@
 // Runs the worked results of docs/WORKED.md that need no call file, and says whether all of them come out.
+#![tactic(auto)]
+
 ghost use Rattle.std.specs.Prelude.{◌≡◌, true};
 ghost use Rattle.worked.specs.All.{AllWorked};
 
