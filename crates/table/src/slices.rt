@@ -19,7 +19,7 @@ pub(crate) fn counted<R>(rows: &[R], count: usize) -> &[R]
 
 // The place of the first row with the key, or the length where there is none.
 pub(crate) fn seat_of<R: Record>(rows: &[R], key: R::Key) -> usize
-    ensures { result ≡ seat order key rows.now }
+    ensures { result ≡ seat R.order key rows.now }
 {
     for i in 0..rows.len() {
         if R::same_key(rows[i].key(), key) {
@@ -31,7 +31,7 @@ pub(crate) fn seat_of<R: Record>(rows: &[R], key: R::Key) -> usize
 
 // How many rows, from the first on, come before `row`.
 pub(crate) fn rank_of<R: Record>(rows: &[R], row: &R) -> usize
-    ensures { result ≡ rank order row.now rows.now }
+    ensures { result ≡ rank R.order row.now rows.now }
 {
     for i in 0..rows.len() {
         if !rows[i].before(row) {
@@ -68,7 +68,7 @@ pub(crate) fn close_at<R: Copy>(rows: &mut [R], p: usize, n: usize)
 
 // Whether each row is within its limits.
 pub(crate) fn all_within<R: Record>(rows: &[R]) -> bool
-    ensures { Decides result (All limits rows.now) }
+    ensures { Decides result (All R.limits rows.now) }
 {
     for row in rows {
         if !row.within_limits() {
@@ -80,7 +80,7 @@ pub(crate) fn all_within<R: Record>(rows: &[R]) -> bool
 
 // Whether each row comes before the next one, and so before every later one.
 pub(crate) fn rising<R: Record>(rows: &[R]) -> bool
-    ensures { Decides result (Rising order rows.now) }
+    ensures { Decides result (Rising R.order rows.now) }
 {
     for i in 1..rows.len() {
         let row = rows[i];
@@ -94,7 +94,7 @@ pub(crate) fn rising<R: Record>(rows: &[R]) -> bool
 
 // Whether no key stands twice, by a look at every earlier row: for a few rows, and for more than there is room for codes.
 fn keys_apart_slowly<R: Record>(rows: &[R]) -> bool
-    ensures { Decides result (Apart order rows.now) }
+    ensures { Decides result (Apart R.order rows.now) }
 {
     for i in 0..rows.len() {
         if seat_of(&rows[0..i], rows[i].key()) < i {
@@ -107,8 +107,8 @@ fn keys_apart_slowly<R: Record>(rows: &[R]) -> bool
 // Writes the codes of the rows' keys.
 fn gather<R: Record>(rows: &[R], codes: &mut [u64])
     requires { length codes.old ≡ length rows.now }
-    ensures codes { codes.new ≡ map (λ x. code (order.named x)) rows.now }
-    ensures coded { All (λ x. coded (order.named x)) rows.now }
+    ensures codes { codes.new ≡ map (λ x. R.code (R.order.named x)) rows.now }
+    ensures coded { All (λ x. R.coded (R.order.named x)) rows.now }
 {
     for i in 0..rows.len() {
         codes[i] = rows[i].key_code();
@@ -203,7 +203,7 @@ fn all_differ(codes: &mut [u64]) -> bool
 
 // Whether each row's code is below the next one's, and so below every later one's.
 fn codes_climb<R: Record>(rows: &[R]) -> bool
-    ensures { Decides result (Climbing (λ x. code (order.named x)) rows.now) }
+    ensures { Decides result (Climbing (λ x. R.code (R.order.named x)) rows.now) }
 {
     for i in 1..rows.len() {
         if rows[i - 1].key_code() >= rows[i].key_code() {
@@ -218,7 +218,7 @@ const ROOM: usize = 512;
 // Whether no key stands twice, by the codes of the keys.
 fn codes_apart<R: Record>(rows: &[R]) -> bool
     requires { length rows.now ≤ 512 }
-    ensures { Decides result (Apart order rows.now) }
+    ensures { Decides result (Apart R.order rows.now) }
 {
     let mut room = [0u64; ROOM];
     let codes = &mut room[0..rows.len()];
@@ -231,7 +231,7 @@ const FEW: usize = 8;
 
 // Whether no key stands twice.
 pub(crate) fn keys_apart<R: Record>(rows: &[R]) -> bool
-    ensures { Decides result (Apart order rows.now) }
+    ensures { Decides result (Apart R.order rows.now) }
 {
     if rows.len() <= FEW || rows.len() > ROOM {
         return keys_apart_slowly(rows);
@@ -241,7 +241,7 @@ pub(crate) fn keys_apart<R: Record>(rows: &[R]) -> bool
 
 // Whether the rows are within their limits and in order, with no key twice.
 pub(crate) fn is_sound<R: Record>(rows: &[R]) -> bool
-    ensures { Decides result (Sound order limits rows.now) }
+    ensures { Decides result (Sound R.order R.limits rows.now) }
 {
     if !all_within(rows) {
         return false;

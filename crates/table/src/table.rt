@@ -24,21 +24,21 @@ impl<'a, R: Record> Table<'a, R> {
 
     // Whether the slice has no more places than the largest count, and no fewer than are counted.
     pub fn fits(&self) -> bool
-        ensures { Decides result (Fitting most self.now.rows.now self.now.count) }
+        ensures { Decides result (Fitting R.most self.now.rows.now self.now.count) }
     {
         self.rows.len() <= R::limit() && self.count <= self.rows.len()
     }
 
     // Whether the counted rows are within their limits and in order, with no key twice.
     pub fn is_sound(&self) -> bool
-        ensures { Decides result (Sound order limits (take self.now.count self.now.rows.now)) }
+        ensures { Decides result (Sound R.order R.limits (take self.now.count self.now.rows.now)) }
     {
         let rows = &*self.rows;
         is_sound(counted(rows, self.count))
     }
 
     pub fn check(&self) -> Result<(), Fault>
-        ensures { Judged order limits most self.now.rows.now self.now.count result }
+        ensures { Judged R.order R.limits R.most self.now.rows.now self.now.count result }
     {
         if !self.fits() {
             return Err(Fault::Size);
@@ -51,7 +51,7 @@ impl<'a, R: Record> Table<'a, R> {
 
     // The place of the counted row with the key.
     pub fn find(&self, key: R::Key) -> Option<usize>
-        ensures { result ≡ found order key (take self.now.count self.now.rows.now) }
+        ensures { result ≡ found R.order key (take self.now.count self.now.rows.now) }
     {
         let rows = counted(&*self.rows, self.count);
         let i = seat_of(rows, key);
@@ -60,7 +60,7 @@ impl<'a, R: Record> Table<'a, R> {
 
     // How many counted rows, from the first on, come before `row`.
     fn place(&self, row: &R) -> usize
-        ensures { result ≡ rank order row.now (take self.now.count self.now.rows.now) }
+        ensures { result ≡ rank R.order row.now (take self.now.count self.now.rows.now) }
     {
         let rows = &*self.rows;
         rank_of(counted(rows, self.count), row)
@@ -68,8 +68,8 @@ impl<'a, R: Record> Table<'a, R> {
 
     // Puts a row in at its place in the order.
     pub fn insert(&mut self, row: R) -> Result<(), Refusal>
-        ensures edit { Inserted order row self.old.rows.now self.old.count self.new.rows.now self.new.count result }
-        ensures keeps { limits row → Sound order limits (take self.old.count self.old.rows.now) → Sound order limits (take self.new.count self.new.rows.now) }
+        ensures edit { Inserted R.order row self.old.rows.now self.old.count self.new.rows.now self.new.count result }
+        ensures keeps { R.limits row → Sound R.order R.limits (take self.old.count self.old.rows.now) → Sound R.order R.limits (take self.new.count self.new.rows.now) }
         ensures room { length self.new.rows.now ≡ length self.old.rows.now }
         ensures lent { self.new.rows.ghost_name ≡ self.old.rows.ghost_name }
     {
@@ -88,8 +88,8 @@ impl<'a, R: Record> Table<'a, R> {
 
     // Takes out the row with the key; answers whether there was one.
     pub fn remove(&mut self, key: R::Key) -> bool
-        ensures edit { Removed order key self.old.rows.now self.old.count self.new.rows.now self.new.count result }
-        ensures keeps { Sound order limits (take self.old.count self.old.rows.now) → Sound order limits (take self.new.count self.new.rows.now) }
+        ensures edit { Removed R.order key self.old.rows.now self.old.count self.new.rows.now self.new.count result }
+        ensures keeps { Sound R.order R.limits (take self.old.count self.old.rows.now) → Sound R.order R.limits (take self.new.count self.new.rows.now) }
         ensures room { length self.new.rows.now ≡ length self.old.rows.now }
         ensures lent { self.new.rows.ghost_name ≡ self.old.rows.ghost_name }
     {

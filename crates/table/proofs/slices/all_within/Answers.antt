@@ -13,7 +13,7 @@ returns-then-not-within-limits g c =
 pub loop-row-preserved : goal.loop-row-preserved
 loop-row-preserved g c =
     let x = c.row-item.result in
-    let here = c.within-limits.ensures.0 c.if-not-within-limits.false in
+    let here = c.within_limits.ensures.0 c.if-not-within_limits.false in
     All-more g.R.Record.limits c.args.rows.now c.loop-row.row-index x c.loop-row-test.true c.loop-row.invariant (subst g.R.Record.limits c.row-item.is here)
 
 pub returns : goal.returns

@@ -13,7 +13,7 @@ loop-i-preserved g c =
     let a = c.index-rows-i.result in
     let r = c.index-rows-i-in-loop-i.result in
     let first = c.key_code.ensures.value in
-    let second = c.key-code-in-loop-i.ensures.value in
+    let second = c.key_code-in-loop-i.ensures.value in
     let up : f a < f r = omega arith in
     pairwise_chain (λ x y. f x < f y) (λ x y z p q. omega arith) c.args.rows.now c.loop-i.i a r (omega arith) c.loop-i-test.true c.index-rows-i.is c.index-rows-i-in-loop-i.is up c.loop-i.invariant
 

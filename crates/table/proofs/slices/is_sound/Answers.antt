@@ -10,4 +10,4 @@ returns-then-not-rising g c = decides_no (λ s. not_from_Decides c.rising.result
 
 pub returns : goal.returns
 returns g c =
-    (λ e. record { within = c.all-within.ensures.0 c.if-not-all-within.false; rising = c.rising.ensures.0 c.if-not-rising.false; apart = c.keys-apart.ensures.0 e }, λ s. c.keys-apart.ensures.1 s.apart)
+    (λ e. record { within = c.all_within.ensures.0 c.if-not-all-within.false; rising = c.rising.ensures.0 c.if-not-rising.false; apart = c.keys_apart.ensures.0 e }, λ s. c.keys_apart.ensures.1 s.apart)

@@ -15,11 +15,11 @@ pub loop-i-preserved : goal.loop-i-preserved
 loop-i-preserved c =
     let cs = c.args.codes.now in
     let i = c.loop-i.i in
-    let s = c.spot-of-spot.result in
+    let s = c.spot_of-spot.result in
     let seen = c.loop-i.seen in
     let h = c.loop-i.invariant in
-    let is = c.spot-of-spot.ensures.value in
-    let below = c.spot-of-spot.ensures.below in
+    let is = c.spot_of-spot.ensures.value in
+    let below = c.spot_of-spot.ensures.below in
     let long = h.1 in
     let few : c.if-seen-spot.looks ≤ 16 = search rules in
     let fresh : Fresh cs i =

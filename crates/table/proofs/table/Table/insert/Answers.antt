@@ -23,12 +23,12 @@ returns g c =
     let n = c.args.self.now.count in
     let no : is_some (found o (o.named r) (take n xs)) ≡ false = search rules in
     let absent = found_none o (o.named r) _ no in
-    let is = was_inserted o g.met.R.Record.lawful g.R.Record.limits r xs _ n c.place-p.result c.place-p.ensures c.open-at.ensures in
+    let is = was_inserted o g.met.R.Record.lawful g.R.Record.limits r xs _ n c.place-p.result c.place-p.ensures c.open_at.ensures in
     let free : n < length xs = search rules in
     let sound = sound_inserted o g.met.R.Record.lawful g.R.Record.limits r xs _ n free absent is in
     record {
       edit = (absent, free, is, search rules);
       keeps = search rules;
-      room = c.open-at.auto.rows;
+      room = c.open_at.auto.rows;
       lent = refl;
     }

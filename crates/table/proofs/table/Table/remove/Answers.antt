@@ -31,11 +31,11 @@ returns g c =
     let n = c.args.self.now.count in
     let k = c.min-n.result in
     let p = c.in-Some.p in
-    let closed : c.close-at.new.rows ≡ (take p (take k xs) ++ drop (p + 1) (take k xs)) ++ drop (k - 1) xs = search rules in
+    let closed : c.close_at.new.rows ≡ (take p (take k xs) ++ drop (p + 1) (take k xs)) ++ drop (k - 1) xs = search rules in
     let out = was_removed o l g.R.Record.limits c.args.key xs _ n c.min-n.result c.in-Some.p c.min-n.ensures (sym c.find.ensures ∙ c.in-Some.is) closed in
     record {
       edit = out;
       keeps = sound_removed o l g.R.Record.limits xs (take n xs) _ _ _ out.2 out.0 out.1;
-      room = c.close-at.auto.rows;
+      room = c.close_at.auto.rows;
       lent = refl;
     }

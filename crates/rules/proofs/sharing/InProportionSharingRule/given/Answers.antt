@@ -1,6 +1,0 @@
-use Rattle.std.proofs.Common.{refl, rules}
-use Rattle.rules.specs.Proportions.{part_fits}
-use Rattle.rules.proofs.sharing.InProportionSharingRule.given.Goals as goal
-
-pub overflow-cast-result-then-fits-3 : goal.overflow-cast-result-then-fits-3
-overflow-cast-result-then-fits-3 c = let within = c.if-fits.ensures.0 refl in search (rules, part_fits)
