@@ -1,7 +1,7 @@
 -- Keys, and the order in which sales, purchases and accounts stand.
 -- To believe: sales by rising price and purchases by falling price; at one price by rising stamp, volume, unit and block number;
 -- accounts by rising agent. `lex` compares two lists by the first place at which they differ.
-use Rattle.std.specs.Prelude.{ℕ, ◌+◌, ◌*◌, Bool, true, false, cond, ◌&&◌, List, [], ◌∷◌, ℤ, pos, neg_ℤ, ◌==◌, int_lt, nat_lt}
+use Rattle.std.specs.Prelude.{ℕ, ◌+◌, ◌*◌, Bool, true, false, cond, ◌&&◌, List, [], ◌∷◌, ℤ, pos, neg_ℤ, ◌==◌, int_lt, nat_eq, nat_lt}
 use Rattle.table.specs.Order.{Order}
 use Rattle.market.specs.declared.account.Account.{Account}
 use Rattle.market.specs.declared.block.Bid.{Bid}
@@ -54,6 +54,6 @@ purchase_order = record {
 abbrev pub account_order : Order Account ℕ
 account_order = record {
   named = λ a. a.agent;
-  same = eqb;
+  same = nat_eq;
   precedes = λ x y. nat_lt x.agent y.agent;
 }

@@ -9,11 +9,11 @@ loop-preserved g c =
     let line = c.loop.invariant.1.0 in
     let here = c.loop.invariant.1.1 in
     let lines = c.loop.invariant.2.0 in
-    let done = c.take-piece-next.result.1 in
-    let ok = sym c.is-err.ensures.value ∙ c.if-is-err.false in (
+    let done = c.take_piece-next.result.1 in
+    let ok = sym c.is_err.ensures.value ∙ c.if-is_err.false in (
       search rules,
-      (_, made_ok done _ ok (c.take-piece-next.ensures.within line here)),
-      (_, answered_append turns c.args.service c.loop.service c.take-piece-next.result.0 lines _ c.loop.invariant.2.1 (made_ok done _ ok (c.take-piece-next.ensures.answered line here))),
+      (_, made_ok done _ ok (c.take_piece-next.ensures.within line here)),
+      (_, answered_append turns c.args.service c.loop.service c.take_piece-next.result.0 lines _ c.loop.invariant.2.1 (made_ok done _ ok (c.take_piece-next.ensures.answered line here))),
     )
 
 pub returns : goal.returns

@@ -14,10 +14,10 @@ loop-byte-preserved g c line w =
     let was = c.loop-byte.invariant line w in
     let more = c.loop-byte-test.true in (
       begun_after was.0 (byte ∷ []),
-      c.take-byte-next.ensures.within was.0 was.1,
+      c.take_byte-next.ensures.within was.0 was.1,
       begun_more was.0 byte rest ∙ sym (at_drop_more (begun_after was.0) xs i 0 more) ∙ was.2,
       λ t h. was.3 t (subst (λ (lines : List (List ℕ)). Answered turns c.loop-byte.service lines t) (sym (at_drop_more (ended was.0) xs i 0 more))
-          (answered_more turns c.loop-byte.service c.take-byte-next.result.0 t was.0 byte rest (c.take-byte-next.ensures.answered was.0 was.1) h)),
+          (answered_more turns c.loop-byte.service c.take_byte-next.result.0 t was.0 byte rest (c.take_byte-next.ensures.answered was.0 was.1) h)),
     )
 
 pub returns : goal.returns

@@ -11,8 +11,8 @@ use Rattle.auction.proofs.crossing.find_crossing.Goals as goal
 step_is : (s a b : ℕ) → s ≡ min a b → 0 < a → 0 < b → (1 ≤ s) × (s ≤ a) × (s ≤ b)
 step_is s a b e h k = (omega arith, omega arith, omega arith)
 
-pub overflow-add-amount : goal.overflow-add-amount
-overflow-add-amount c =
+pub overflow_add-amount : goal.overflow_add-amount
+overflow_add-amount c =
     let l = left_over (behind c.args.brought lowest_price c.args.sales.now) c.loop-sale.amount c.loop-sale.sale.left c.loop-sale.sale.price (drop c.loop-sale.sale.next c.args.sales.now) c.loop-sale.invariant.sale_stands in
     let s = behind_short c.args.brought lowest_price c.args.sales.now c.requires.carried.0 c.requires.rising.volumes c.requires.rising.few in
     let i = step_is c.least-step.result c.loop-sale.sale.left c.loop-sale.purchase.left c.least-step.ensures c.loop-sale-test.true c.if-purchase-gt0.true in

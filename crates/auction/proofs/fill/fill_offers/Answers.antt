@@ -20,8 +20,8 @@ part-matched-requires g c =
     let m = rank (to_z w32 (of_z w32 c.args.marginal)) in
     let h : i < length os = search rules in
     let f : SFits w32 (price_of (get_or os i blank)) = search rules in
-    let p : c.place-of-place.result ≡ place m (rank (price_of (get_or os i blank))) = rw (to_z-of_z w32 (price_of (get_or os i blank)) f) at c.place-of-place.ensures in
-    record { enough = c.requires.enough; room = tied_room (g.S.SharingRule.meaning c.args.rule.now) rank m c.args.amount c.args.tied c.loop-offer.passed i os h c.loop-offer.invariant.1 c.place-of-place.result p }
+    let p : c.place_of-place.result ≡ place m (rank (price_of (get_or os i blank))) = rw (to_z-of_z w32 (price_of (get_or os i blank)) f) at c.place_of-place.ensures in
+    record { enough = c.requires.enough; room = tied_room (g.S.SharingRule.meaning c.args.rule.now) rank m c.args.amount c.args.tied c.loop-offer.passed i os h c.loop-offer.invariant.1 c.place_of-place.result p }
 
 pub loop-offer-preserved : goal.loop-offer-preserved
 loop-offer-preserved g c =
@@ -33,7 +33,7 @@ loop-offer-preserved g c =
     let s : ℕ → ℕ → ℕ → ℕ = g.S.SharingRule.meaning c.args.rule.now in
     let h : i < length os = search rules in
     let f : SFits w32 (price_of o) = search rules in
-    let p : c.place-of-place.result ≡ place m (rank (price_of o)) = rw (to_z-of_z w32 (price_of o) f) at c.place-of-place.ensures in
+    let p : c.place_of-place.result ≡ place m (rank (price_of o)) = rw (to_z-of_z w32 (price_of o) f) at c.place_of-place.ensures in
     let e : c.part_matched.result.0 ≡ by_place (volume_of o) (s c.args.amount c.args.tied (c.loop-offer.passed + volume_of o) - s c.args.amount c.args.tied c.loop-offer.passed) 0 (place m (rank (price_of o))) =
     c.part_matched.ensures.matched ∙ ap (by_place (volume_of o) (s c.args.amount c.args.tied (c.loop-offer.passed + volume_of o) - s c.args.amount c.args.tied c.loop-offer.passed) 0) p in
     let e' : c.part_matched.result.1 ≡ by_place c.loop-offer.passed (c.loop-offer.passed + volume_of o) c.loop-offer.passed (place m (rank (price_of o))) =

@@ -1,8 +1,8 @@
 use Rattle.std.proofs.Common.{ℕ, ◌+◌, ◌≤◌, arith, rules}
 use Rattle.auction.proofs.fill.part.Goals as goal
 
-pub overflow-sub-result : goal.overflow-sub-result
-overflow-sub-result g c =
+pub overflow_sub-result : goal.overflow_sub-result
+overflow_sub-result g c =
     let room : c.args.passed + c.args.volume ≤ c.args.tied = c.requires.room c.in-Tied.is in
     let k = (g.met.S.SharingRule.lawful c.args.rule.now).rises c.args.amount c.args.tied c.args.passed (c.args.passed + c.args.volume) c.requires.enough (omega arith) room in
     omega (arith, k, c.given.ensures, c.given-in-Tied.ensures)

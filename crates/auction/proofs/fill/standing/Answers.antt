@@ -8,19 +8,19 @@ use Rattle.auction.proofs.Filling.{before_le, tied_le, volume_at}
 use Rattle.auction.proofs.Sides.{blank}
 use Rattle.auction.proofs.fill.standing.Goals as goal
 
-pub overflow-add-ahead : goal.overflow-add-ahead
-overflow-add-ahead c =
+pub overflow_add-ahead : goal.overflow_add-ahead
+overflow_add-ahead c =
     let i = c.loop-offer.offer-index in
     let h : i < length c.args.offers.now = search rules in
-    let e : c.counted-before.result.0 ≡ by_place (volume_of (get_or c.args.offers.now i blank)) 0 0 c.place-of.result = ap (λ (r : ℕ × ℕ). r.0) c.counted-before.ensures in
-    omega (arith, e, before_le (volume_of (get_or c.args.offers.now i blank)) c.place-of.result, volume_at c.args.offers.now i h c.requires.bids, c.loop-offer.invariant.2, c.requires.few)
+    let e : c.counted-before.result.0 ≡ by_place (volume_of (get_or c.args.offers.now i blank)) 0 0 c.place_of.result = ap (λ (r : ℕ × ℕ). r.0) c.counted-before.ensures in
+    omega (arith, e, before_le (volume_of (get_or c.args.offers.now i blank)) c.place_of.result, volume_at c.args.offers.now i h c.requires.bids, c.loop-offer.invariant.2, c.requires.few)
 
-pub overflow-add-tied : goal.overflow-add-tied
-overflow-add-tied c =
+pub overflow_add-tied : goal.overflow_add-tied
+overflow_add-tied c =
     let i = c.loop-offer.offer-index in
     let h : i < length c.args.offers.now = search rules in
-    let e : c.counted-before.result.1 ≡ by_place 0 (volume_of (get_or c.args.offers.now i blank)) 0 c.place-of.result = ap (λ (r : ℕ × ℕ). r.1) c.counted-before.ensures in
-    omega (arith, e, tied_le (volume_of (get_or c.args.offers.now i blank)) c.place-of.result, volume_at c.args.offers.now i h c.requires.bids, c.loop-offer.invariant.3, c.requires.few)
+    let e : c.counted-before.result.1 ≡ by_place 0 (volume_of (get_or c.args.offers.now i blank)) 0 c.place_of.result = ap (λ (r : ℕ × ℕ). r.1) c.counted-before.ensures in
+    omega (arith, e, tied_le (volume_of (get_or c.args.offers.now i blank)) c.place_of.result, volume_at c.args.offers.now i h c.requires.bids, c.loop-offer.invariant.3, c.requires.few)
 
 pub loop-offer-preserved : goal.loop-offer-preserved
 loop-offer-preserved c =
@@ -31,7 +31,7 @@ loop-offer-preserved c =
     let m = rank (to_z w32 (of_z w32 c.args.marginal)) in
     let h : i < length os = search rules in
     let f : SFits w32 (price_of o) = search rules in
-    let p : c.place-of.result ≡ place m (rank (price_of o)) = rw (to_z-of_z w32 (price_of o) f) at c.place-of.ensures in
+    let p : c.place_of.result ≡ place m (rank (price_of o)) = rw (to_z-of_z w32 (price_of o) f) at c.place_of.ensures in
     let e : c.counted-before.result.0 ≡ by_place (volume_of o) 0 0 (place m (rank (price_of o))) = ap (λ (r : ℕ × ℕ). r.0) c.counted-before.ensures ∙ ap (by_place (volume_of o) 0 0) p in
     let e' : c.counted-before.result.1 ≡ by_place 0 (volume_of o) 0 (place m (rank (price_of o))) = ap (λ (r : ℕ × ℕ). r.1) c.counted-before.ensures ∙ ap (by_place 0 (volume_of o) 0) p in
     let a : ahead rank m (drop i os) ≡ by_place (volume_of o) 0 0 (place m (rank (price_of o))) + ahead rank m (drop (i + 1) os) = at_drop_more (ahead rank m) os i blank h in

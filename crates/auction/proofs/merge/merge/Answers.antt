@@ -7,16 +7,16 @@ use Rattle.std.proofs.lemmas.List.{append-nil, drop_all}
 use Rattle.auction.proofs.Weaving.{merged_more}
 use Rattle.auction.proofs.merge.merge.Goals as goal
 
-pub next-offer-first-requires : goal.next-offer-first-requires
-next-offer-first-requires g c = record { within = (c.loop-k.invariant.2, c.loop-k.invariant.3); more = omega (arith, c.loop-k.invariant.1, c.loop-k-test.true) }
+pub next_offer-first-requires : goal.next_offer-first-requires
+next_offer-first-requires g c = record { within = (c.loop-k.invariant.2, c.loop-k.invariant.3); more = omega (arith, c.loop-k.invariant.1, c.loop-k-test.true) }
 
 pub loop-k-preserved : goal.loop-k-preserved
 loop-k-preserved g c =
     let f = g.R.BlockRow.held in
     let h : c.loop-k.k < length c.loop-k.offers = omega (arith, c.loop-k-test.true, c.requires, c.loop-k.auto.offers) in
-    let e = c.next-offer-first.ensures in (
-      merged_more f (rank_of c.args.side) c.loop-k.offers c.loop-k.k c.next-offer-first.result.0 (map f (drop c.loop-k.i c.args.one.now)) (map f (drop c.loop-k.j c.args.two.now))
-          (merged (rank_of c.args.side) (map f c.args.one.now) (map f c.args.two.now)) (merged (rank_of c.args.side) (map f (drop c.next-offer-first.result.1 c.args.one.now)) (map f (drop c.next-offer-first.result.2 c.args.two.now)))
+    let e = c.next_offer-first.ensures in (
+      merged_more f (rank_of c.args.side) c.loop-k.offers c.loop-k.k c.next_offer-first.result.0 (map f (drop c.loop-k.i c.args.one.now)) (map f (drop c.loop-k.j c.args.two.now))
+          (merged (rank_of c.args.side) (map f c.args.one.now) (map f c.args.two.now)) (merged (rank_of c.args.side) (map f (drop c.next_offer-first.result.1 c.args.one.now)) (map f (drop c.next_offer-first.result.2 c.args.two.now)))
           h c.loop-k.invariant.0 e.merged,
       omega (arith, e.one, c.loop-k.invariant.1),
       e.within.0,

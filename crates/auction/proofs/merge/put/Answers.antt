@@ -6,13 +6,13 @@ use Rattle.auction.specs.Offers.{second_first, comes_first, rank_of, merged, in_
 use Rattle.std.proofs.lemmas.List.{map-set}
 use Rattle.auction.proofs.merge.put.Goals as goal
 
-pub returns-then-is-in : goal.returns-then-is-in
-returns-then-is-in g c =
+pub returns-then-is_in : goal.returns-then-is_in
+returns-then-is_in g c =
     let f = g.R.BlockRow.held in
-    let t : same_zone c.args.zone c.args.offer.now.zone ≡ true = sym c.is-in.ensures ∙ c.if-is-in.true in
+    let t : same_zone c.args.zone c.args.offer.now.zone ≡ true = sym c.is_in.ensures ∙ c.if-is_in.true in
     rw t (record { rows = map-set f c.args.rows.now c.args.i c.of.result ∙ ap (set (map f c.args.rows.now) c.args.i) c.of.ensures; next = refl })
 
-pub returns-else-is-in : goal.returns-else-is-in
-returns-else-is-in g c =
-    let t : same_zone c.args.zone c.args.offer.now.zone ≡ false = sym c.is-in.ensures ∙ c.if-is-in.false in
+pub returns-else-is_in : goal.returns-else-is_in
+returns-else-is_in g c =
+    let t : same_zone c.args.zone c.args.offer.now.zone ≡ false = sym c.is_in.ensures ∙ c.if-is_in.false in
     rw t (record { rows = refl; next = refl })

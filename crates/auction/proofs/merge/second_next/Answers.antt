@@ -15,4 +15,4 @@ returns-then-j-two g c = sym (ends_second g.R.BlockRow.held (rank_of c.args.side
 pub returns : goal.returns
 returns g c =
     let e = both_left g.R.BlockRow.held (rank_of c.args.side) c.args.one.now c.args.two.now c.args.i c.args.j c.index-one-i.result c.index-two-j.result (omega (arith, c.if-i-one.false, c.requires)) (omega (arith, c.if-j-two.false, c.requires)) c.index-one-i.is c.index-two-j.is in
-    c.stands-first.ensures ∙ ap (λ (b : Block). comes_first (rank_of c.args.side) b c.block-first.result) c.block-second.ensures ∙ ap (λ (b : Block). comes_first (rank_of c.args.side) (g.R.BlockRow.held c.index-two-j.result) b) c.block-first.ensures ∙ sym e
+    c.stands_first.ensures ∙ ap (λ (b : Block). comes_first (rank_of c.args.side) b c.block-first.result) c.block-second.ensures ∙ ap (λ (b : Block). comes_first (rank_of c.args.side) (g.R.BlockRow.held c.index-two-j.result) b) c.block-first.ensures ∙ sym e

@@ -14,7 +14,7 @@ returns-in-Before c =
     let rank = rank_of c.args.side in
     let f : SFits w32 b.bid.price = search rules in
     let f' : SFits w32 o.bid.price = search rules in
-    let e = rw (to_z-of_z w32 b.bid.price f, to_z-of_z w32 o.bid.price f') at c.place-of.ensures in
+    let e = rw (to_z-of_z w32 b.bid.price f, to_z-of_z w32 o.bid.price f') at c.place_of.ensures in
     let p : place (rank o.bid.price) (rank b.bid.price) ≡ Before = sym e ∙ c.in-Before.is in
     let k = first_by_place rank b o ∙ ap (by_place true (lex (at_one_price b.bid) (at_one_price o.bid)) false) p in
     sym k
@@ -26,10 +26,10 @@ returns-in-Tied c =
     let rank = rank_of c.args.side in
     let f : SFits w32 b.bid.price = search rules in
     let f' : SFits w32 o.bid.price = search rules in
-    let e = rw (to_z-of_z w32 b.bid.price f, to_z-of_z w32 o.bid.price f') at c.place-of.ensures in
+    let e = rw (to_z-of_z w32 b.bid.price f, to_z-of_z w32 o.bid.price f') at c.place_of.ensures in
     let p : place (rank o.bid.price) (rank b.bid.price) ≡ Tied = sym e ∙ c.in-Tied.is in
     let k = first_by_place rank b o ∙ ap (by_place true (lex (at_one_price b.bid) (at_one_price o.bid)) false) p in
-    c.wins-tie.ensures ∙ sym k
+    c.wins_tie.ensures ∙ sym k
 
 pub returns-in-After : goal.returns-in-After
 returns-in-After c =
@@ -38,7 +38,7 @@ returns-in-After c =
     let rank = rank_of c.args.side in
     let f : SFits w32 b.bid.price = search rules in
     let f' : SFits w32 o.bid.price = search rules in
-    let e = rw (to_z-of_z w32 b.bid.price f, to_z-of_z w32 o.bid.price f') at c.place-of.ensures in
+    let e = rw (to_z-of_z w32 b.bid.price f, to_z-of_z w32 o.bid.price f') at c.place_of.ensures in
     let p : place (rank o.bid.price) (rank b.bid.price) ≡ After = sym e ∙ c.in-After.is in
     let k = first_by_place rank b o ∙ ap (by_place true (lex (at_one_price b.bid) (at_one_price o.bid)) false) p in
     sym k

@@ -28,8 +28,8 @@ sum_bounds s m i n h k u v = (omega (arith, ints), omega (arith, ints), omega (a
 pub loop-row-init : goal.loop-row-init
 loop-row-init g c = (omega (arith, ints), omega (arith, ints), omega (arith, ints))
 
-pub overflow-add-sum : goal.overflow-add-sum
-overflow-add-sum g c =
+pub overflow_add-sum : goal.overflow_add-sum
+overflow_add-sum g c =
     let f = g.R.BlockRow.held in
     let xs = c.args.rows.now in
     let i = c.loop-row.row-index in

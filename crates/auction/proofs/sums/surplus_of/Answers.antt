@@ -23,8 +23,8 @@ joined a b A B e e' h k = let d : SFits w64 (A +ℤ B) = omega (arith, ints) in 
 
 pub returns : goal.returns
 returns c =
-    let one = difference c.money-of.result c.money-of-2.result _ _ c.money-of.ensures.value c.money-of-2.ensures.value c.money-of.ensures.within c.money-of-2.ensures.within in
-    let two = difference c.money-of-3.result c.money-of-4.result _ _ c.money-of-3.ensures.value c.money-of-4.ensures.value c.money-of-3.ensures.within c.money-of-4.ensures.within in
+    let one = difference c.money_of.result c.money_of-2.result _ _ c.money_of.ensures.value c.money_of-2.ensures.value c.money_of.ensures.within c.money_of-2.ensures.within in
+    let two = difference c.money_of-3.result c.money_of-4.result _ _ c.money_of-3.ensures.value c.money_of-4.ensures.value c.money_of-3.ensures.within c.money_of-4.ensures.within in
     let value-one = one.0 in
     let value-two = two.0 in
     let apart-one = one.1 in

@@ -12,7 +12,7 @@ loop-offer-preserved c =
     let i = c.loop-offer.offer-index in
     let h : i < length os = search rules in
     let e = total_more c.args.zone os i h in
-    (omega (arith, e, c.matched-in.ensures, c.loop-offer.invariant.0), omega (arith, c.loop-offer.invariant.1))
+    (omega (arith, e, c.matched_in.ensures, c.loop-offer.invariant.0), omega (arith, c.loop-offer.invariant.1))
 
 pub returns : goal.returns
 returns c =

@@ -13,8 +13,8 @@ factors p n f h =
     let e' : to_z w64 n ≡ pos n = omega (arith, ints) in
     rw (e, e') refl
 
-pub overflow-mul-result : goal.overflow-mul-result
-overflow-mul-result c =
+pub overflow_mul-result : goal.overflow_mul-result
+overflow_mul-result c =
     let f : SFits w32 c.args.price = search rules in
     let h : c.args.volume < 2 ^ 32 = omega arith in
     rw (factors c.args.price c.args.volume f h) (product_fits c.args.price c.args.volume f h)

@@ -15,24 +15,24 @@ use Rattle.auction.proofs.zones.clear_together.Goals as goal
 whole : (os ws : List Offer) (n : ℕ) → length os ≤ n → take n os ≡ ws → os ≡ ws
 whole os ws n l e = sym (take_all n os l) ∙ e
 
-pub clear-pool-requires : goal.clear-pool-requires
-clear-pool-requires g c =
-    let s = whole c.merge.new.offers (merged of_sales (sale_blocks c.args.sales-one.now) (sale_blocks c.args.sales-two.now)) (length c.args.sales-one.now + length c.args.sales-two.now) (omega (arith, c.merge.auto.offers, c.requires.places.0)) c.merge.ensures in
-    let p = whole c.merge-2.new.offers (merged of_purchases (purchase_blocks c.args.purchases-one.now) (purchase_blocks c.args.purchases-two.now)) (length c.args.purchases-one.now + length c.args.purchases-two.now) (omega (arith, c.merge-2.auto.offers, c.requires.places.1)) c.merge-2.ensures in
+pub clear_pool-requires : goal.clear_pool-requires
+clear_pool-requires g c =
+    let s = whole c.merge.new.offers (merged of_sales (sale_blocks c.args.sales_one.now) (sale_blocks c.args.sales_two.now)) (length c.args.sales_one.now + length c.args.sales_two.now) (omega (arith, c.merge.auto.offers, c.requires.places.0)) c.merge.ensures in
+    let p = whole c.merge-2.new.offers (merged of_purchases (purchase_blocks c.args.purchases_one.now) (purchase_blocks c.args.purchases_two.now)) (length c.args.purchases_one.now + length c.args.purchases_two.now) (omega (arith, c.merge-2.auto.offers, c.requires.places.1)) c.merge-2.ensures in
     record {
-      rising = subst (Ready of_sales) (sym s) (sales_ready c.args.sales-one.now c.args.sales-two.now c.args.purchases-one.now c.args.purchases-two.now c.requires.one c.requires.two);
-      falling = subst (Ready of_purchases) (sym p) (purchases_ready c.args.sales-one.now c.args.sales-two.now c.args.purchases-one.now c.args.purchases-two.now c.requires.one c.requires.two);
+      rising = subst (Ready of_sales) (sym s) (sales_ready c.args.sales_one.now c.args.sales_two.now c.args.purchases_one.now c.args.purchases_two.now c.requires.one c.requires.two);
+      falling = subst (Ready of_purchases) (sym p) (purchases_ready c.args.sales_one.now c.args.sales_two.now c.args.purchases_one.now c.args.purchases_two.now c.requires.one c.requires.two);
       carried = (omega arith, omega arith);
       room = record { brings = omega arith; takes = omega arith };
     }
 
 pub returns : goal.returns
 returns g c =
-    let s = whole c.merge.new.offers (merged of_sales (sale_blocks c.args.sales-one.now) (sale_blocks c.args.sales-two.now)) (length c.args.sales-one.now + length c.args.sales-two.now) (omega (arith, c.merge.auto.offers, c.requires.places.0)) c.merge.ensures in
-    let p = whole c.merge-2.new.offers (merged of_purchases (purchase_blocks c.args.purchases-one.now) (purchase_blocks c.args.purchases-two.now)) (length c.args.purchases-one.now + length c.args.purchases-two.now) (omega (arith, c.merge-2.auto.offers, c.requires.places.1)) c.merge-2.ensures in
-    let x : ◌≡◌ {A = Pool} (record { sales = c.merge.new.offers; purchases = c.merge-2.new.offers; brought = 0; taken = 0 }) (together (book c.args.sales-one.now c.args.purchases-one.now) (book c.args.sales-two.now c.args.purchases-two.now)) = pool_same _ _ _ _ 0 0 s p in
+    let s = whole c.merge.new.offers (merged of_sales (sale_blocks c.args.sales_one.now) (sale_blocks c.args.sales_two.now)) (length c.args.sales_one.now + length c.args.sales_two.now) (omega (arith, c.merge.auto.offers, c.requires.places.0)) c.merge.ensures in
+    let p = whole c.merge-2.new.offers (merged of_purchases (purchase_blocks c.args.purchases_one.now) (purchase_blocks c.args.purchases_two.now)) (length c.args.purchases_one.now + length c.args.purchases_two.now) (omega (arith, c.merge-2.auto.offers, c.requires.places.1)) c.merge-2.ensures in
+    let x : ◌≡◌ {A = Pool} (record { sales = c.merge.new.offers; purchases = c.merge-2.new.offers; brought = 0; taken = 0 }) (together (book c.args.sales_one.now c.args.purchases_one.now) (book c.args.sales_two.now c.args.purchases_two.now)) = pool_same _ _ _ _ 0 0 s p in
     record {
-      sold = c.clear-pool.ensures.sold ∙ ap (λ (y : Pool). (cleared (g.S.SharingRule.meaning c.args.rule.now) y).sales) x;
-      bought = c.clear-pool.ensures.bought ∙ ap (λ (y : Pool). (cleared (g.S.SharingRule.meaning c.args.rule.now) y).purchases) x;
-      bracket = c.clear-pool.ensures.bracket;
+      sold = c.clear_pool.ensures.sold ∙ ap (λ (y : Pool). (cleared (g.S.SharingRule.meaning c.args.rule.now) y).sales) x;
+      bought = c.clear_pool.ensures.bought ∙ ap (λ (y : Pool). (cleared (g.S.SharingRule.meaning c.args.rule.now) y).purchases) x;
+      bracket = c.clear_pool.ensures.bracket;
     }

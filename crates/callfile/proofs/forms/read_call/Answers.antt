@@ -3,17 +3,17 @@ use Rattle.callfile.specs.Forms.{call_of}
 use Rattle.callfile.proofs.Calls.{reads_from, long_from}
 use Rattle.callfile.proofs.forms.read_call.Goals as goal
 
-pub returns-in-err-call : goal.returns-in-err-call
-returns-in-err-call c =
+pub returns-in_err-call : goal.returns-in_err-call
+returns-in_err-call c =
     let e : c.from-residual.result ≡ call_of c.args.line.now = search rules in
     record { reads = reads_from _ _ e; long = long_from _ _ e }
 
-pub returns-then-is-empty : goal.returns-then-is-empty
-returns-then-is-empty c =
-    let e : Some c.in-ok-call.call ≡ call_of c.args.line.now = search rules in
+pub returns-then-is_empty : goal.returns-then-is_empty
+returns-then-is_empty c =
+    let e : Some c.in_ok-call.call ≡ call_of c.args.line.now = search rules in
     record { reads = reads_from c.args.line.now _ e; long = long_from c.args.line.now _ e }
 
-pub returns-else-is-empty : goal.returns-else-is-empty
-returns-else-is-empty c =
+pub returns-else-is_empty : goal.returns-else-is_empty
+returns-else-is_empty c =
     let e : None ≡ call_of c.args.line.now = search rules in
     record { reads = reads_from c.args.line.now _ e; long = long_from c.args.line.now _ e }

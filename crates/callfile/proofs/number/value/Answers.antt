@@ -16,11 +16,11 @@ returns-then-digit-lt48 c =
       short = tt;
     }
 
-pub overflow-mul-value : goal.overflow-mul-value
-overflow-mul-value c = omega (arith, short c.loop-digit.value c.loop-digit.digit-index (length c.args.digits.now) c.loop-digit.invariant.1 c.loop-digit-test.true c.requires)
+pub overflow_mul-value : goal.overflow_mul-value
+overflow_mul-value c = omega (arith, short c.loop-digit.value c.loop-digit.digit-index (length c.args.digits.now) c.loop-digit.invariant.1 c.loop-digit-test.true c.requires)
 
-pub overflow-add-value : goal.overflow-add-value
-overflow-add-value c = omega (arith, short c.loop-digit.value c.loop-digit.digit-index (length c.args.digits.now) c.loop-digit.invariant.1 c.loop-digit-test.true c.requires)
+pub overflow_add-value : goal.overflow_add-value
+overflow_add-value c = omega (arith, short c.loop-digit.value c.loop-digit.digit-index (length c.args.digits.now) c.loop-digit.invariant.1 c.loop-digit-test.true c.requires)
 
 pub loop-digit-preserved : goal.loop-digit-preserved
 loop-digit-preserved c = (

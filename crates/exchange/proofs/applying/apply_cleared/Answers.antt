@@ -15,9 +15,9 @@ returns-in-Settle g c =
     let k = c.settle.ensures in
     let r = c.settled.result in
     let w = c.settled.ensures in
-    let before : Places = places a.sales-one.now a.purchases-one.now a.sales-two.now a.purchases-two.now a.accounts.now a.entries.now in
-    let later : Places = places c.settle.new.sales-one c.settle.new.purchases-one c.settle.new.sales-two c.settle.new.purchases-two c.settle.new.accounts c.settle.new.entries in
+    let before : Places = places a.sales_one.now a.purchases_one.now a.sales_two.now a.purchases_two.now a.accounts.now a.entries.now in
+    let later : Places = places c.settle.new.sales_one c.settle.new.purchases_one c.settle.new.sales_two c.settle.new.purchases_two c.settle.new.accounts c.settle.new.entries in
     record {
-      does = subst (λ (x : Call). ClearedDoes g.P.PriceRule.meaning g.S.SharingRule.meaning a.state (before) x r.0 r.1 (later)) (sym c.in-Settle.is) (c.settle.result, k.why, k.after, four_same _ _ _ _ _ _ _ _ k.sales-one k.purchases-one k.sales-two k.purchases-two, w);
+      does = subst (λ (x : Call). ClearedDoes g.P.PriceRule.meaning g.S.SharingRule.meaning a.state (before) x r.0 r.1 (later)) (sym c.in-Settle.is) (c.settle.result, k.why, k.after, four_same _ _ _ _ _ _ _ _ k.sales_one k.purchases_one k.sales_two k.purchases_two, w);
       step = subst (λ (x : Call). Step g.P.PriceRule.meaning g.S.SharingRule.meaning x r.1 (exchange.Cleared a.state) (before) r.0 (later)) (sym c.in-Settle.is) (step_as g.P.PriceRule.meaning g.S.SharingRule.meaning (Settle) settled_idle exchange.Cleared settling (exchange.Cleared a.state) (before) c.settle.result (later) r.0 r.1 w k.step);
     }

@@ -12,8 +12,8 @@ pub returns-in-Admit : goal.returns-in-Admit
 returns-in-Admit g c =
     let a = c.args in
     let k = c.admit.ensures in
-    let r = c.still-idle.result in
-    let w = c.still-idle.ensures in
+    let r = c.still_idle.result in
+    let w = c.still_idle.ensures in
     let before : Places → Places = λ t. with_accounts t a.accounts.now in
     let later : Places → Places = λ t. with_accounts t c.admit.new.accounts in
     record {

@@ -14,10 +14,10 @@ pub returns-in-Admit : goal.returns-in-Admit
 returns-in-Admit g c =
     let a = c.args in
     let k = c.admit.ensures in
-    let r = c.still-open.result in
-    let w = c.still-open.ensures in
-    let before : List Entry → Places = λ es. places a.sales-one.now a.purchases-one.now a.sales-two.now a.purchases-two.now a.accounts.now es in
-    let later : List Entry → Places = λ es. places a.sales-one.now a.purchases-one.now a.sales-two.now a.purchases-two.now c.admit.new.accounts es in
+    let r = c.still_open.result in
+    let w = c.still_open.ensures in
+    let before : List Entry → Places = λ es. places a.sales_one.now a.purchases_one.now a.sales_two.now a.purchases_two.now a.accounts.now es in
+    let later : List Entry → Places = λ es. places a.sales_one.now a.purchases_one.now a.sales_two.now a.purchases_two.now c.admit.new.accounts es in
     record {
       does = λ es. subst (λ (x : Call). OpenDoes g.P.PriceRule.meaning g.S.SharingRule.meaning a.state (before es) x r.0 r.1 (later es)) (sym c.in-Admit.is) (c.admit.result, k.why, k.after, refl, w);
       step = λ es. subst (λ (x : Call). Step g.P.PriceRule.meaning g.S.SharingRule.meaning x r.1 (exchange.Open a.state) (before es) r.0 (later es)) (sym c.in-Admit.is) (step_as g.P.PriceRule.meaning g.S.SharingRule.meaning (Admit c.in-Admit.agent) exchange.Open exchange.Open accepting (exchange.Open a.state) (before es) c.admit.result (later es) r.0 r.1 w (k.step (before es)));
@@ -27,12 +27,12 @@ pub returns-in-Enter : goal.returns-in-Enter
 returns-in-Enter g c =
     let a = c.args in
     let k = c.enter.ensures in
-    let r = c.still-open-in-Enter.result in
-    let w = c.still-open-in-Enter.ensures in
-    let before : List Entry → Places = λ es. places a.sales-one.now a.purchases-one.now a.sales-two.now a.purchases-two.now a.accounts.now es in
-    let later : List Entry → Places = λ es. places c.enter.new.sales-one c.enter.new.purchases-one c.enter.new.sales-two c.enter.new.purchases-two c.enter.new.accounts es in
+    let r = c.still_open-in-Enter.result in
+    let w = c.still_open-in-Enter.ensures in
+    let before : List Entry → Places = λ es. places a.sales_one.now a.purchases_one.now a.sales_two.now a.purchases_two.now a.accounts.now es in
+    let later : List Entry → Places = λ es. places c.enter.new.sales_one c.enter.new.purchases_one c.enter.new.sales_two c.enter.new.purchases_two c.enter.new.accounts es in
     record {
-      does = λ es. subst (λ (x : Call). OpenDoes g.P.PriceRule.meaning g.S.SharingRule.meaning a.state (before es) x r.0 r.1 (later es)) (sym c.in-Enter.is) (c.enter.result, k.why, k.after, ap (λ (xs : List Account). places c.enter.new.sales-one c.enter.new.purchases-one c.enter.new.sales-two c.enter.new.purchases-two xs es) k.accounts, w);
+      does = λ es. subst (λ (x : Call). OpenDoes g.P.PriceRule.meaning g.S.SharingRule.meaning a.state (before es) x r.0 r.1 (later es)) (sym c.in-Enter.is) (c.enter.result, k.why, k.after, ap (λ (xs : List Account). places c.enter.new.sales_one c.enter.new.purchases_one c.enter.new.sales_two c.enter.new.purchases_two xs es) k.accounts, w);
       step = λ es. subst (λ (x : Call). Step g.P.PriceRule.meaning g.S.SharingRule.meaning x r.1 (exchange.Open a.state) (before es) r.0 (later es)) (sym c.in-Enter.is) (step_as g.P.PriceRule.meaning g.S.SharingRule.meaning (Enter c.in-Enter.zone c.in-Enter.side c.in-Enter.bid) exchange.Open exchange.Open accepting (exchange.Open a.state) (before es) c.enter.result (later es) r.0 r.1 w (k.step es));
     }
 
@@ -40,10 +40,10 @@ pub returns-in-Withdraw : goal.returns-in-Withdraw
 returns-in-Withdraw g c =
     let a = c.args in
     let k = c.withdraw.ensures in
-    let r = c.still-open-in-Withdraw.result in
-    let w = c.still-open-in-Withdraw.ensures in
-    let before : List Entry → Places = λ es. places a.sales-one.now a.purchases-one.now a.sales-two.now a.purchases-two.now a.accounts.now es in
-    let later : List Entry → Places = λ es. places c.withdraw.new.sales-one c.withdraw.new.purchases-one c.withdraw.new.sales-two c.withdraw.new.purchases-two a.accounts.now es in
+    let r = c.still_open-in-Withdraw.result in
+    let w = c.still_open-in-Withdraw.ensures in
+    let before : List Entry → Places = λ es. places a.sales_one.now a.purchases_one.now a.sales_two.now a.purchases_two.now a.accounts.now es in
+    let later : List Entry → Places = λ es. places c.withdraw.new.sales_one c.withdraw.new.purchases_one c.withdraw.new.sales_two c.withdraw.new.purchases_two a.accounts.now es in
     record {
       does = λ es. subst (λ (x : Call). OpenDoes g.P.PriceRule.meaning g.S.SharingRule.meaning a.state (before es) x r.0 r.1 (later es)) (sym c.in-Withdraw.is) (c.withdraw.result, k.why, k.after, refl, w);
       step = λ es. subst (λ (x : Call). Step g.P.PriceRule.meaning g.S.SharingRule.meaning x r.1 (exchange.Open a.state) (before es) r.0 (later es)) (sym c.in-Withdraw.is) (step_as g.P.PriceRule.meaning g.S.SharingRule.meaning (Withdraw c.in-Withdraw.zone c.in-Withdraw.side c.in-Withdraw.key) exchange.Open exchange.Open accepting (exchange.Open a.state) (before es) c.withdraw.result (later es) r.0 r.1 w (k.step (before es)));

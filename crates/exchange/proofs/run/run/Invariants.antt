@@ -10,8 +10,8 @@ abbrev pub invariant-loop-i : goal.invariant-loop-i
 invariant-loop-i g l =
     let f = g.P.PriceRule.meaning in
     let m = g.S.SharingRule.meaning in
-    let before = places l.initial.sales-one l.initial.purchases-one l.initial.sales-two l.initial.purchases-two l.initial.accounts l.initial.entries in
-    let here = places l.sales-one l.purchases-one l.sales-two l.purchases-two l.accounts l.entries in
+    let before = places l.initial.sales_one l.initial.purchases_one l.initial.sales_two l.initial.purchases_two l.initial.accounts l.initial.entries in
+    let here = places l.sales_one l.purchases_one l.sales_two l.purchases_two l.accounts l.entries in
     ((e : Engine g.row.P.Denot g.row.S.Denot) (h : History) → LawfulAfter f m e h l.initial.current before → Throughout f m e h l.initial.current before (take l.i l.calls) (take l.i l.answers) l.current here)
     × (length l.answers ≡ length l.initial.answers)
     × (drop (length l.calls) l.answers ≡ drop (length l.calls) l.initial.answers)

@@ -16,13 +16,13 @@ returns g c =
     let r = c.clear-clearing.result in
     let m = g.S.SharingRule.meaning a.engine.now.sharing_rule in
     let f = g.P.PriceRule.meaning a.engine.now.price_rule in
-    let b₁ : Book = book (take s.one.sales a.sales-one.now) (take s.one.purchases a.purchases-one.now) in
-    let b₂ : Book = book (take s.two.sales a.sales-two.now) (take s.two.purchases a.purchases-two.now) in
-    let t = four a.sales-one.now a.purchases-one.now a.sales-two.now a.purchases-two.now in
+    let b₁ : Book = book (take s.one.sales a.sales_one.now) (take s.one.purchases a.purchases_one.now) in
+    let b₂ : Book = book (take s.two.sales a.sales_two.now) (take s.two.purchases a.purchases_two.now) in
+    let t = four a.sales_one.now a.purchases_one.now a.sales_two.now a.purchases_two.now in
     let l = c.clear-clearing.new in
-    let clears : Clears m f c.forward.result c.backward.result b₁ b₂ (book l.sales-one l.purchases-one) (book l.sales-two l.purchases-two) r.price_one r.price_two r.flow = search rules in
-    let k : Clears m f s.capacities.forward s.capacities.backward b₁ b₂ (book l.sales-one l.purchases-one) (book l.sales-two l.purchases-two) r.price_one r.price_two r.flow =
-    subst₂ (λ (x y : ℕ). Clears m f x y b₁ b₂ (book l.sales-one l.purchases-one) (book l.sales-two l.purchases-two) r.price_one r.price_two r.flow) c.forward.ensures.value c.backward.ensures.value clears in
+    let clears : Clears m f c.forward.result c.backward.result b₁ b₂ (book l.sales_one l.purchases_one) (book l.sales_two l.purchases_two) r.price_one r.price_two r.flow = search rules in
+    let k : Clears m f s.capacities.forward s.capacities.backward b₁ b₂ (book l.sales_one l.purchases_one) (book l.sales_two l.purchases_two) r.price_one r.price_two r.flow =
+    subst₂ (λ (x y : ℕ). Clears m f x y b₁ b₂ (book l.sales_one l.purchases_one) (book l.sales_two l.purchases_two) r.price_one r.price_two r.flow) c.forward.ensures.value c.backward.ensures.value clears in
     let w : ClearedWell c.forward.result c.backward.result b₁ b₂ (clearing m f c.forward.result c.backward.result b₁ b₂) = search rules in
     let gains : r.surplus ≡ surplus (clearing m f c.forward.result c.backward.result b₁ b₂).schedule = search rules in
     let gain : r.surplus ≡ surplus (outcome_at m f s t).schedule = subst₂ (λ (x y : ℕ). r.surplus ≡ surplus (clearing m f x y b₁ b₂).schedule) c.forward.ensures.value c.backward.ensures.value gains in
@@ -38,5 +38,5 @@ returns g c =
         flow = ap (λ z. to_z w32 (of_z w32 z)) (to_z-of_z w64 r.flow fits-long) ∙ to_z-of_z w32 r.flow fits-flow ∙ k.carried;
         gained = to_z-of_z w64 r.surplus fits-gain ∙ gain;
       };
-      places = places_scheduled (outcome_at m f s t) s t l.sales-one l.purchases-one l.sales-two l.purchases-two k.zone₁ k.zone₂;
+      places = places_scheduled (outcome_at m f s t) s t l.sales_one l.purchases_one l.sales_two l.purchases_two k.zone₁ k.zone₂;
     }

@@ -11,18 +11,18 @@ use Rattle.session.proofs.counted.clear_session.Goals as goal
 pub returns-in-Ok : goal.returns-in-Ok
 returns-in-Ok g c =
     let a = c.args in
-    let t : Four = (four a.sales-one.now a.purchases-one.now a.sales-two.now a.purchases-two.now) in
-    let u : Four = (four c.check.new.sales-one c.check.new.purchases-one c.check.new.sales-two c.check.new.purchases-two) in
-    let e : u ≡ t = (four_same _ _ _ _ _ _ _ _ c.check.ensures.sales-one c.check.ensures.purchases-one c.check.ensures.sales-two c.check.ensures.purchases-two) in
+    let t : Four = (four a.sales_one.now a.purchases_one.now a.sales_two.now a.purchases_two.now) in
+    let u : Four = (four c.check.new.sales_one c.check.new.purchases_one c.check.new.sales_two c.check.new.purchases_two) in
+    let e : u ≡ t = (four_same _ _ _ _ _ _ _ _ c.check.ensures.sales_one c.check.ensures.purchases_one c.check.ensures.sales_two c.check.ensures.purchases_two) in
     record {
-      why = ok_as (clear_causes (blocks_of a.session a.sales-one.now a.purchases-one.now a.sales-two.now a.purchases-two.now)) (tt {0}) c.clear-counted.result c.in-Ok.ensures.why;
-      after = cleared_session (g.S.SharingRule.meaning a.engine.now.sharing_rule) (g.P.PriceRule.meaning a.engine.now.price_rule) a.session t u c.clear-counted.result (four c.clear-counted.new.sales-one c.clear-counted.new.purchases-one c.clear-counted.new.sales-two c.clear-counted.new.purchases-two) e c.clear-counted.ensures.report c.clear-counted.ensures.places;
+      why = ok_as (clear_causes (blocks_of a.session a.sales_one.now a.purchases_one.now a.sales_two.now a.purchases_two.now)) (tt {0}) c.clear_counted.result c.in-Ok.ensures.why;
+      after = cleared_session (g.S.SharingRule.meaning a.engine.now.sharing_rule) (g.P.PriceRule.meaning a.engine.now.price_rule) a.session t u c.clear_counted.result (four c.clear_counted.new.sales_one c.clear_counted.new.purchases_one c.clear_counted.new.sales_two c.clear_counted.new.purchases_two) e c.clear_counted.ensures.report c.clear_counted.ensures.places;
     }
 
 pub returns-in-Err : goal.returns-in-Err
 returns-in-Err g c =
     let a = c.args in
     record {
-      why = err_as (Unit {0}) Report (clear_causes (blocks_of a.session a.sales-one.now a.purchases-one.now a.sales-two.now a.purchases-two.now)) c.in-Err.why c.in-Err.ensures.why;
-      after = (four_same _ _ _ _ _ _ _ _ c.check.ensures.sales-one c.check.ensures.purchases-one c.check.ensures.sales-two c.check.ensures.purchases-two);
+      why = err_as (Unit {0}) Report (clear_causes (blocks_of a.session a.sales_one.now a.purchases_one.now a.sales_two.now a.purchases_two.now)) c.in-Err.why c.in-Err.ensures.why;
+      after = (four_same _ _ _ _ _ _ _ _ c.check.ensures.sales_one c.check.ensures.purchases_one c.check.ensures.sales_two c.check.ensures.purchases_two);
     }

@@ -13,7 +13,7 @@ long z = to_z w64 (of_z w64 z)
 pub returns : goal.returns
 returns g c =
     let a = c.args in
-    let t : Four = four a.sales-one.now a.purchases-one.now a.sales-two.now a.purchases-two.now in
+    let t : Four = four a.sales_one.now a.purchases_one.now a.sales_two.now a.purchases_two.now in
     let p = a.report.price_one in
     let q = a.report.price_two in
     let f = a.report.flow in

@@ -10,7 +10,7 @@ use Rattle.session.proofs.session.enter_row.Goals as goal
 pub returns-in-Ok : goal.returns-in-Ok
 returns-in-Ok g c =
     entered_row (kind g.R.Record.order g.R.Record.limits g.R.Record.most) c.args.row c.args.bid c.args.rows.now c.args.count c.args.accounts.now c.args.owners
-    c.check-tables.new.rows c.check-tables.new.accounts c.check-tables.ensures.rows c.check-tables.ensures.accounts c.in-Ok.ensures.why c.put-bid.result c.put-bid.new.rows c.put-bid.new.accounts c.put-bid.ensures.why c.put-bid.ensures.after c.put-bid.ensures.accounts
+    c.check_tables.new.rows c.check_tables.new.accounts c.check_tables.ensures.rows c.check_tables.ensures.accounts c.in-Ok.ensures.why c.put_bid.result c.put_bid.new.rows c.put_bid.new.accounts c.put_bid.ensures.why c.put_bid.ensures.after c.put_bid.ensures.accounts
 
 pub returns-in-Err : goal.returns-in-Err
 returns-in-Err g c =

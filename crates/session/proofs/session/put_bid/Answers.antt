@@ -10,7 +10,7 @@ pub returns-in-Ok : goal.returns-in-Ok
 returns-in-Ok g c =
     let later : List Cause = owned_causes (kind g.R.Record.order g.R.Record.limits g.R.Record.most) c.args.row c.args.bid.agent (lent c.args.rows.now c.args.count) (lent c.args.accounts.now c.args.owners) in
     record {
-      why = first_accepts {A = Unit {0}} {B = ℕ} (bid_causes c.args.bid) later tt c.put-owned.result c.in-Ok.ensures (search rules);
+      why = first_accepts {A = Unit {0}} {B = ℕ} (bid_causes c.args.bid) later tt c.put_owned.result c.in-Ok.ensures (search rules);
       after = search rules;
       accounts = search rules;
     }

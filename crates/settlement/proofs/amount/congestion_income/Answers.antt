@@ -6,8 +6,8 @@ use Rattle.settlement.proofs.amount.congestion_income.Goals as goal
 
 pub returns : goal.returns
 returns c =
-    let first = c.args.price-one in
-    let second = c.args.price-two in
+    let first = c.args.price_one in
+    let second = c.args.price_two in
     let f : to_z w32 (of_z w32 c.args.flow) ≡ c.args.flow = omega (arith, ints) in
     let d : to_z w64 (of_z w64 (to_z w64 (of_z w64 (to_z w32 (of_z w32 second))) -ℤ to_z w64 (of_z w64 (to_z w32 (of_z w32 first))))) ≡ second -ℤ first = omega (arith, ints) in
     let p : c.product.result ≡ c.args.flow *ℤ (second -ℤ first) = rw (f, d) at c.product.ensures.value in

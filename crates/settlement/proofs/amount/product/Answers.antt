@@ -3,8 +3,8 @@ use Rattle.std.proofs.lemmas.Int.{ints, to_z-of_z}
 use Rattle.settlement.proofs.Products.{product_small}
 use Rattle.settlement.proofs.amount.product.Goals as goal
 
-pub overflow-mul-result : goal.overflow-mul-result
-overflow-mul-result c =
+pub overflow_mul-result : goal.overflow_mul-result
+overflow_mul-result c =
     let a : to_z w64 (of_z w64 (to_z w32 (of_z w32 c.args.a))) ≡ c.args.a = omega (arith, ints) in
     let b : to_z w64 (of_z w64 c.args.b) ≡ c.args.b = omega (arith, ints) in
     rw (a, b) (omega (arith, ints, product_small c.args.a c.args.b c.ranges.a c.requires))

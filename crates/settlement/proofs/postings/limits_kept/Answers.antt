@@ -13,7 +13,7 @@ returns-then-positions c =
     let r = to_z-of_z w64 c.args.residue c.ranges.residue in
     let I : ℤ → Type 0 = λ z. PositionWithinLimits (z +ℤ income_of o) in
     let R : ℤ → Type 0 = λ z. PositionWithinLimits (z +ℤ residue_of o) in
-    decides_second (λ p q. record { positions = p; incomes = subst I i q.0; residues = subst R r q.1 }) (λ w. (subst I (sym i) w.incomes, subst R (sym r) w.residues)) c.if-positions.true c.positions-may-stand-positions.ensures c.totals-may-stand-totals.ensures
+    decides_second (λ p q. record { positions = p; incomes = subst I i q.0; residues = subst R r q.1 }) (λ w. (subst I (sym i) w.incomes, subst R (sym r) w.residues)) c.if-positions.true c.positions_may_stand-positions.ensures c.totals_may_stand-totals.ensures
 
 pub returns-else-positions : goal.returns-else-positions
-returns-else-positions c = decides_first (λ w. w.positions) c.if-positions.false c.positions-may-stand-positions.ensures
+returns-else-positions c = decides_first (λ w. w.positions) c.if-positions.false c.positions_may_stand-positions.ensures

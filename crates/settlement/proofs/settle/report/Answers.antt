@@ -4,8 +4,8 @@ use Rattle.settlement.proofs.settle.report.Goals as goal
 
 pub returns : goal.returns
 returns c =
-    let i = c.income-session-income.ensures.value in
-    let r = c.residue-session-residue.ensures in
+    let i = c.income-session_income.ensures.value in
+    let r = c.residue-session_residue.ensures in
     record {
       entries = c.requires.0.1;
       incomes = omega (arith, ints, i);

@@ -9,8 +9,8 @@ use Rattle.settlement.specs.declared.entry.Entry.{Entry}
 use Rattle.settlement.proofs.Rows.{all_parts, entries_step}
 use Rattle.settlement.proofs.sides.agents_known.Goals as goal
 
-pub returns-then-not-row-known : goal.returns-then-not-row-known
-returns-then-not-row-known g c = λ price.
+pub returns-then-not-row_known : goal.returns-then-not-row_known
+returns-then-not-row_known g c = λ price.
     let known : Entry → Type 0 = λ e. has_account c.args.accounts.now e.agent ≡ true in
     let t = g.B.Traded.trade in
     let xs = c.args.blocks.now in
@@ -18,7 +18,7 @@ returns-then-not-row-known g c = λ price.
     let r = c.row-item.result in
     let step = entries_step t price xs i r c.loop-row-test.true c.row-item.is in (
       λ e. absurd (false≢true e),
-      λ all. (c.if-not-row-known.ensures price).1 (all_parts known (side_entries t price (r ∷ [])) (side_entries t price (drop (i + 1) xs)) (subst (All known) step ((c.loop-row.invariant price).1 all))).0,
+      λ all. (c.if-not-row_known.ensures price).1 (all_parts known (side_entries t price (r ∷ [])) (side_entries t price (drop (i + 1) xs)) (subst (All known) step ((c.loop-row.invariant price).1 all))).0,
     )
 
 pub loop-row-preserved : goal.loop-row-preserved
@@ -31,7 +31,7 @@ loop-row-preserved g c = λ price.
     let row = side_entries t price (r ∷ []) in
     let rest = side_entries t price (drop (i + 1) xs) in
     let step = entries_step t price xs i r c.loop-row-test.true c.row-item.is in
-    let here = (c.if-not-row-known.ensures price).0 refl in (
+    let here = (c.if-not-row_known.ensures price).0 refl in (
       λ all. (c.loop-row.invariant price).0 (subst (All known) (sym step) (All-append known row rest here all)),
       λ all. (all_parts known row rest (subst (All known) step ((c.loop-row.invariant price).1 all))).1,
     )

@@ -9,14 +9,14 @@ use Rattle.settlement.proofs.sides.posted_cents.Goals as goal
 pub loop-row-init : goal.loop-row-init
 loop-row-init g c = (omega (arith, ints), omega arith)
 
-pub overflow-add-sum : goal.overflow-add-sum
-overflow-add-sum g c = omega (arith, ints, c.loop-row.invariant.1, c.row-posted.ensures.small)
+pub overflow_add-sum : goal.overflow_add-sum
+overflow_add-sum g c = omega (arith, ints, c.loop-row.invariant.1, c.row_posted.ensures.small)
 
 pub loop-row-preserved : goal.loop-row-preserved
 loop-row-preserved g c =
     let p = to_z w32 (of_z w32 c.args.price) in
     let step = total_step g.B.Traded.trade p (λ e. cond (eqb e.agent c.args.agent) e.cents (pos 0)) c.args.blocks.now c.loop-row.row-index c.row-item.result c.loop-row-test.true c.row-item.is in
-    (omega (arith, ints, step, c.loop-row.invariant.0, c.row-posted.ensures.value), omega (arith, ints, c.loop-row.invariant.1, c.row-posted.ensures.small))
+    (omega (arith, ints, step, c.loop-row.invariant.0, c.row_posted.ensures.value), omega (arith, ints, c.loop-row.invariant.1, c.row_posted.ensures.small))
 
 pub returns : goal.returns
 returns g c =

@@ -7,8 +7,8 @@ use Rattle.settlement.proofs.Rows.{entries_step}
 use Rattle.settlement.proofs.Writes.{written_none, written_next}
 use Rattle.settlement.proofs.sides.write_side.Goals as goal
 
-pub write-row-next-requires : goal.write-row-next-requires
-write-row-next-requires g c =
+pub write_row-next-requires : goal.write_row-next-requires
+write_row-next-requires g c =
     let t = g.B.Traded.trade in
     let p = to_z w32 (of_z w32 c.args.price) in
     let xs = c.args.blocks.now in
@@ -31,9 +31,9 @@ loop-row-preserved g c =
     let same = ap (λ (z : ℤ). length (side_entries t z xs)) (to_z-of_z w32 c.args.price c.ranges.price) in
     let sum = length-append row rest in
     let size = ap length step in
-    let at = c.write-row-next.ensures.next in
+    let at = c.write_row-next.ensures.next in
     let room : c.loop-row.next + length row ≤ length c.loop-row.entries = omega (arith, size, sum, c.loop-row.invariant.1, same, c.requires, c.loop-row.auto.entries) in
-    let joined = written_next c.loop-row.next c.write-row-next.result row rest c.loop-row.entries c.write-row-next.new.entries room c.write-row-next.ensures.entries at in
+    let joined = written_next c.loop-row.next c.write_row-next.result row rest c.loop-row.entries c.write_row-next.new.entries room c.write_row-next.ensures.entries at in
     (joined ∙ ap (λ es. written c.loop-row.next es c.loop-row.entries) (sym step) ∙ c.loop-row.invariant.0, omega (arith, size, sum, at, c.loop-row.invariant.1))
 
 pub returns : goal.returns

@@ -5,10 +5,10 @@ use Rattle.std.proofs.Common.{sym, subst}
 use Rattle.table.proofs.Decisions.{decides_yes, decides_no}
 use Rattle.table.proofs.slices.all_within.Goals as goal
 
-pub returns-then-not-within-limits : goal.returns-then-not-within-limits
-returns-then-not-within-limits g c =
+pub returns-then-not-within_limits : goal.returns-then-not-within_limits
+returns-then-not-within_limits g c =
     let x = c.row-item.result in
-    decides_no (λ h. not_from_Decides c.within-limits.result c.within-limits.ensures c.if-not-within-limits.true (subst g.R.Record.limits (sym c.row-item.is) (All-get_or g.R.Record.limits c.args.rows.now c.loop-row.row-index x c.loop-row-test.true h)))
+    decides_no (λ h. not_from_Decides c.within_limits.result c.within_limits.ensures c.if-not-within_limits.true (subst g.R.Record.limits (sym c.row-item.is) (All-get_or g.R.Record.limits c.args.rows.now c.loop-row.row-index x c.loop-row-test.true h)))
 
 pub loop-row-preserved : goal.loop-row-preserved
 loop-row-preserved g c =

@@ -5,8 +5,8 @@ use Rattle.table.proofs.Decisions.{decides_yes, decides_no}
 use Rattle.table.proofs.Keys.{apart_more, apart_not}
 use Rattle.table.proofs.slices.keys_apart_slowly.Goals as goal
 
-pub returns-then-seat-of-i : goal.returns-then-seat-of-i
-returns-then-seat-of-i g c =
+pub returns-then-seat_of-i : goal.returns-then-seat_of-i
+returns-then-seat_of-i g c =
     let o = g.R.Record.order in
     let s : seat o (o.named c.index-rows-i.result) (take c.loop-i.i c.args.rows.now) < c.loop-i.i = search rules in
     decides_no (apart_not o c.args.rows.now c.loop-i.i c.index-rows-i.result c.loop-i-test.true c.index-rows-i.is s)

@@ -13,31 +13,31 @@ pub returns-in-Ok : goal.returns-in-Ok
 returns-in-Ok g c =
     let a = c.args in
     let k = c.in-Ok.ensures in
-    let l = c.settle-session.new in
+    let l = c.settle_session.new in
     let i = c.in-Ok.settled.total_income in
     let j = c.in-Ok.settled.total_residue in
     let fits-income : SFits w64 i = search rules in
     let fits-residue : SFits w64 j = search rules in
-    let before : Places = places a.sales-one.now a.purchases-one.now a.sales-two.now a.purchases-two.now a.accounts.now a.entries.now in
-    let later : Places = places l.sales-one l.purchases-one l.sales-two l.purchases-two l.accounts l.entries in
-    let same = four_same _ _ _ _ _ _ _ _ k.sales-one k.purchases-one k.sales-two k.purchases-two in
+    let before : Places = places a.sales_one.now a.purchases_one.now a.sales_two.now a.purchases_two.now a.accounts.now a.entries.now in
+    let later : Places = places l.sales_one l.purchases_one l.sales_two l.purchases_two l.accounts l.entries in
+    let same = four_same _ _ _ _ _ _ _ _ k.sales_one k.purchases_one k.sales_two k.purchases_two in
     let p = with_step (λ why after. cleared_settle g.P.PriceRule.meaning g.S.SharingRule.meaning g.met.S.SharingRule.lawful g.met.P.PriceRule.within a.self before later (Ok _) why after same) k.why (record {
       engine = refl;
-      ledger = simp to_z-of_z at c.with-totals-ledger.ensures;
+      ledger = simp to_z-of_z at c.with_totals-ledger.ensures;
       posted = k.after;
     }) in
-    record { why = p.why; after = p.after; sales-one = k.sales-one; purchases-one = k.purchases-one; sales-two = k.sales-two; purchases-two = k.purchases-two; step = p.step }
+    record { why = p.why; after = p.after; sales_one = k.sales_one; purchases_one = k.purchases_one; sales_two = k.sales_two; purchases_two = k.purchases_two; step = p.step }
 
 pub returns-in-Err : goal.returns-in-Err
 returns-in-Err g c =
     let a = c.args in
     let k = c.in-Err.ensures in
-    let l = c.settle-session.new in
-    let t : Four = four a.sales-one.now a.purchases-one.now a.sales-two.now a.purchases-two.now in
-    let before : Places = places a.sales-one.now a.purchases-one.now a.sales-two.now a.purchases-two.now a.accounts.now a.entries.now in
-    let later : Places = places l.sales-one l.purchases-one l.sales-two l.purchases-two l.accounts l.entries in
-    let same = four_same _ _ _ _ _ _ _ _ k.sales-one k.purchases-one k.sales-two k.purchases-two in
-    let causes = settle_causes (held_for a.self.session a.self.report t) (blocks_of a.self.session a.sales-one.now a.purchases-one.now a.sales-two.now a.purchases-two.now) (lent a.accounts.now a.self.ledger.accounts) a.entries.now a.self.ledger.income a.self.ledger.residue in
+    let l = c.settle_session.new in
+    let t : Four = four a.sales_one.now a.purchases_one.now a.sales_two.now a.purchases_two.now in
+    let before : Places = places a.sales_one.now a.purchases_one.now a.sales_two.now a.purchases_two.now a.accounts.now a.entries.now in
+    let later : Places = places l.sales_one l.purchases_one l.sales_two l.purchases_two l.accounts l.entries in
+    let same = four_same _ _ _ _ _ _ _ _ k.sales_one k.purchases_one k.sales_two k.purchases_two in
+    let causes = settle_causes (held_for a.self.session a.self.report t) (blocks_of a.self.session a.sales_one.now a.purchases_one.now a.sales_two.now a.purchases_two.now) (lent a.accounts.now a.self.ledger.accounts) a.entries.now a.self.ledger.income a.self.ledger.residue in
     let p = with_step (λ why after. cleared_settle g.P.PriceRule.meaning g.S.SharingRule.meaning g.met.S.SharingRule.lawful g.met.P.PriceRule.within a.self before later (Err _) why after same)
     (err_as Settled (Idle g.row.P.Denot g.row.S.Denot × Settled) causes c.in-Err.why k.why) (refl, k.after.0, k.after.1) in
-    record { why = p.why; after = p.after; sales-one = k.sales-one; purchases-one = k.purchases-one; sales-two = k.sales-two; purchases-two = k.purchases-two; step = p.step }
+    record { why = p.why; after = p.after; sales_one = k.sales_one; purchases_one = k.purchases_one; sales_two = k.sales_two; purchases_two = k.purchases_two; step = p.step }

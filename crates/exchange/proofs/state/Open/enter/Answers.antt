@@ -13,10 +13,10 @@ returns-in-Ok g c =
     let a = c.args in
     let k = c.in-Ok.ensures in
     let l = c.enter.new in
-    let before : List Entry → Places = λ es. places a.sales-one.now a.purchases-one.now a.sales-two.now a.purchases-two.now a.accounts.now es in
-    let later : List Entry → Places = λ es. places l.sales-one l.purchases-one l.sales-two l.purchases-two l.accounts es in
+    let before : List Entry → Places = λ es. places a.sales_one.now a.purchases_one.now a.sales_two.now a.purchases_two.now a.accounts.now es in
+    let later : List Entry → Places = λ es. places l.sales_one l.purchases_one l.sales_two l.purchases_two l.accounts es in
     let p = with_step (λ why after. λ es. open_enter g.P.PriceRule.meaning g.S.SharingRule.meaning g.met.S.SharingRule.lawful g.met.P.PriceRule.within a.zone a.side a.bid a.self (before es) (later es) (Ok _) why after k.accounts refl)
-    (ok_as (enter_causes (zone_at a.zone) a.side a.bid (blocks_of a.self.session a.sales-one.now a.purchases-one.now a.sales-two.now a.purchases-two.now) (lent a.accounts.now a.self.ledger.accounts)) c.in-Ok.session _ k.why)
+    (ok_as (enter_causes (zone_at a.zone) a.side a.bid (blocks_of a.self.session a.sales_one.now a.purchases_one.now a.sales_two.now a.purchases_two.now) (lent a.accounts.now a.self.ledger.accounts)) c.in-Ok.session _ k.why)
     (search rules) in
     record { why = p.why; after = p.after; accounts = k.accounts; step = p.step }
 
@@ -25,9 +25,9 @@ returns-in-Err g c =
     let a = c.args in
     let k = c.in-Err.ensures in
     let l = c.enter.new in
-    let before : List Entry → Places = λ es. places a.sales-one.now a.purchases-one.now a.sales-two.now a.purchases-two.now a.accounts.now es in
-    let later : List Entry → Places = λ es. places l.sales-one l.purchases-one l.sales-two l.purchases-two l.accounts es in
+    let before : List Entry → Places = λ es. places a.sales_one.now a.purchases_one.now a.sales_two.now a.purchases_two.now a.accounts.now es in
+    let later : List Entry → Places = λ es. places l.sales_one l.purchases_one l.sales_two l.purchases_two l.accounts es in
     let p = with_step (λ why after. λ es. open_enter g.P.PriceRule.meaning g.S.SharingRule.meaning g.met.S.SharingRule.lawful g.met.P.PriceRule.within a.zone a.side a.bid a.self (before es) (later es) (Err _) why after k.accounts refl)
-    (err_as Session (Open g.row.P.Denot g.row.S.Denot) (enter_causes (zone_at a.zone) a.side a.bid (blocks_of a.self.session a.sales-one.now a.purchases-one.now a.sales-two.now a.purchases-two.now) (lent a.accounts.now a.self.ledger.accounts)) c.in-Err.why k.why)
+    (err_as Session (Open g.row.P.Denot g.row.S.Denot) (enter_causes (zone_at a.zone) a.side a.bid (blocks_of a.self.session a.sales_one.now a.purchases_one.now a.sales_two.now a.purchases_two.now) (lent a.accounts.now a.self.ledger.accounts)) c.in-Err.why k.why)
     (search (rules, four_same)) in
     record { why = p.why; after = p.after; accounts = k.accounts; step = p.step }

@@ -14,10 +14,10 @@ returns-in-Ok g c =
     let a = c.args in
     let k = c.in-Ok.ensures in
     let l = c.withdraw.new in
-    let before : Places → Places = λ t. with_blocks t (four a.sales-one.now a.purchases-one.now a.sales-two.now a.purchases-two.now) in
-    let later : Places → Places = λ t. with_blocks t (four l.sales-one l.purchases-one l.sales-two l.purchases-two) in
+    let before : Places → Places = λ t. with_blocks t (four a.sales_one.now a.purchases_one.now a.sales_two.now a.purchases_two.now) in
+    let later : Places → Places = λ t. with_blocks t (four l.sales_one l.purchases_one l.sales_two l.purchases_two) in
     with_step (λ why after. λ t. open_withdraw g.P.PriceRule.meaning g.S.SharingRule.meaning g.met.S.SharingRule.lawful g.met.P.PriceRule.within a.zone a.side a.key a.self (before t) (later t) (Ok _) why after refl refl)
-    (ok_as (withdraw_causes (zone_at a.zone) a.side a.key (blocks_of a.self.session a.sales-one.now a.purchases-one.now a.sales-two.now a.purchases-two.now)) c.in-Ok.session _ k.why)
+    (ok_as (withdraw_causes (zone_at a.zone) a.side a.key (blocks_of a.self.session a.sales_one.now a.purchases_one.now a.sales_two.now a.purchases_two.now)) c.in-Ok.session _ k.why)
     (search rules)
 
 pub returns-in-Err : goal.returns-in-Err
@@ -25,8 +25,8 @@ returns-in-Err g c =
     let a = c.args in
     let k = c.in-Err.ensures in
     let l = c.withdraw.new in
-    let before : Places → Places = λ t. with_blocks t (four a.sales-one.now a.purchases-one.now a.sales-two.now a.purchases-two.now) in
-    let later : Places → Places = λ t. with_blocks t (four l.sales-one l.purchases-one l.sales-two l.purchases-two) in
+    let before : Places → Places = λ t. with_blocks t (four a.sales_one.now a.purchases_one.now a.sales_two.now a.purchases_two.now) in
+    let later : Places → Places = λ t. with_blocks t (four l.sales_one l.purchases_one l.sales_two l.purchases_two) in
     with_step (λ why after. λ t. open_withdraw g.P.PriceRule.meaning g.S.SharingRule.meaning g.met.S.SharingRule.lawful g.met.P.PriceRule.within a.zone a.side a.key a.self (before t) (later t) (Err _) why after refl refl)
-    (err_as Session (Open g.row.P.Denot g.row.S.Denot) (withdraw_causes (zone_at a.zone) a.side a.key (blocks_of a.self.session a.sales-one.now a.purchases-one.now a.sales-two.now a.purchases-two.now)) c.in-Err.why k.why)
+    (err_as Session (Open g.row.P.Denot g.row.S.Denot) (withdraw_causes (zone_at a.zone) a.side a.key (blocks_of a.self.session a.sales_one.now a.purchases_one.now a.sales_two.now a.purchases_two.now)) c.in-Err.why k.why)
     (search (rules, four_same))

@@ -8,22 +8,22 @@ pub returns-in-Ok : goal.returns-in-Ok
 returns-in-Ok c =
     let a = c.args in
     in_sales (λ s. side_withdraw_causes s a.key (zone_tables a.self a.sales.now a.purchases.now)) (λ s. withdrawn_in s a.key) a.self a.sales.now a.purchases.now a.side c.in-Sale.is
-    (taken_out sale_kind a.key (lent a.sales.now a.self.sales)) refl (Ok c.in-Ok.count) c.withdraw-row.new.rows c.in-Ok.ensures.why c.in-Ok.ensures.after
+    (taken_out sale_kind a.key (lent a.sales.now a.self.sales)) refl (Ok c.in-Ok.count) c.withdraw_row.new.rows c.in-Ok.ensures.why c.in-Ok.ensures.after
 
 pub returns-in-Err : goal.returns-in-Err
 returns-in-Err c =
     let a = c.args in
     in_sales (λ s. side_withdraw_causes s a.key (zone_tables a.self a.sales.now a.purchases.now)) (λ s. withdrawn_in s a.key) a.self a.sales.now a.purchases.now a.side c.in-Sale.is
-    (taken_out sale_kind a.key (lent a.sales.now a.self.sales)) refl (Err c.in-Err.why) c.withdraw-row.new.rows c.in-Err.ensures.why c.in-Err.ensures.after
+    (taken_out sale_kind a.key (lent a.sales.now a.self.sales)) refl (Err c.in-Err.why) c.withdraw_row.new.rows c.in-Err.ensures.why c.in-Err.ensures.after
 
-pub returns-in-Ok-withdraw-row : goal.returns-in-Ok-withdraw-row
-returns-in-Ok-withdraw-row c =
+pub returns-in-Ok-withdraw_row : goal.returns-in-Ok-withdraw_row
+returns-in-Ok-withdraw_row c =
     let a = c.args in
     in_purchases (λ s. side_withdraw_causes s a.key (zone_tables a.self a.sales.now a.purchases.now)) (λ s. withdrawn_in s a.key) a.self a.sales.now a.purchases.now a.side c.in-Purchase.is
-    (taken_out purchase_kind a.key (lent a.purchases.now a.self.purchases)) refl (Ok c.in-Ok-withdraw-row.count) c.withdraw-row-in-Purchase.new.rows c.in-Ok-withdraw-row.ensures.why c.in-Ok-withdraw-row.ensures.after
+    (taken_out purchase_kind a.key (lent a.purchases.now a.self.purchases)) refl (Ok c.in-Ok-withdraw_row.count) c.withdraw_row-in-Purchase.new.rows c.in-Ok-withdraw_row.ensures.why c.in-Ok-withdraw_row.ensures.after
 
-pub returns-in-Err-withdraw-row : goal.returns-in-Err-withdraw-row
-returns-in-Err-withdraw-row c =
+pub returns-in-Err-withdraw_row : goal.returns-in-Err-withdraw_row
+returns-in-Err-withdraw_row c =
     let a = c.args in
     in_purchases (λ s. side_withdraw_causes s a.key (zone_tables a.self a.sales.now a.purchases.now)) (λ s. withdrawn_in s a.key) a.self a.sales.now a.purchases.now a.side c.in-Purchase.is
-    (taken_out purchase_kind a.key (lent a.purchases.now a.self.purchases)) refl (Err c.in-Err-withdraw-row.why) c.withdraw-row-in-Purchase.new.rows c.in-Err-withdraw-row.ensures.why c.in-Err-withdraw-row.ensures.after
+    (taken_out purchase_kind a.key (lent a.purchases.now a.self.purchases)) refl (Err c.in-Err-withdraw_row.why) c.withdraw_row-in-Purchase.new.rows c.in-Err-withdraw_row.ensures.why c.in-Err-withdraw_row.ensures.after

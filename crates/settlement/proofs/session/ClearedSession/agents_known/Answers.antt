@@ -10,10 +10,10 @@ pub returns-then-one : goal.returns-then-one
 returns-then-one c =
     let o = outcome_of c.args.self in
     let known : Entry → Type 0 = λ e. has_account c.args.accounts.now e.agent ≡ true in
-    both_true known (zone_entries o.one) (zone_entries o.two) (block_entries o) (block_parts o) c.if-one.true c.agents-known-one.ensures c.agents-known-two.ensures
+    both_true known (zone_entries o.one) (zone_entries o.two) (block_entries o) (block_parts o) c.if-one.true c.agents_known-one.ensures c.agents_known-two.ensures
 
 pub returns-else-one : goal.returns-else-one
 returns-else-one c =
     let o = outcome_of c.args.self in
     let known : Entry → Type 0 = λ e. has_account c.args.accounts.now e.agent ≡ true in
-    both_false known (zone_entries o.one) (zone_entries o.two) (block_entries o) (block_parts o) c.if-one.false c.agents-known-one.ensures
+    both_false known (zone_entries o.one) (zone_entries o.two) (block_entries o) (block_parts o) c.if-one.false c.agents_known-one.ensures

@@ -9,7 +9,7 @@ returns c =
     let o = outcome_of c.args.self in
     let up = adds_up o c.requires in
     record {
-      value = omega (arith, ints, up.opposite, c.total-cents.ensures.value, c.total-cents.ensures.small);
-      small = omega (arith, ints, up.opposite, up.small, c.total-cents.ensures.value, c.total-cents.ensures.small);
-      bound = omega (arith, ints, c.total-cents.ensures.small);
+      value = omega (arith, ints, up.opposite, c.total_cents.ensures.value, c.total_cents.ensures.small);
+      small = omega (arith, ints, up.opposite, up.small, c.total_cents.ensures.value, c.total_cents.ensures.small);
+      bound = omega (arith, ints, c.total_cents.ensures.small);
     }

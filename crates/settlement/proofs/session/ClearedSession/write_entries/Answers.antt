@@ -14,8 +14,8 @@ write-next-requires c = omega (arith, session_count (outcome_of c.args.self), c.
 pub write-last-requires : goal.write-last-requires
 write-last-requires c = omega (arith, session_count (outcome_of c.args.self), c.requires, c.write-next.ensures.next, c.write-next.auto.entries)
 
-pub write-income-requires : goal.write-income-requires
-write-income-requires c =
+pub write_income-requires : goal.write_income-requires
+write_income-requires c =
     omega (arith, session_count (outcome_of c.args.self), c.requires, c.write-next.ensures.next, c.write-next.auto.entries, c.write-last.ensures.next, c.write-last.auto.entries)
 
 pub returns : goal.returns
@@ -29,5 +29,5 @@ returns c =
     let same : wrote ≡ entry (income_due o) = ap (λ z. record { agent = 0; unit = 0; number = 0; cents = z }) (out ∙ c.income.ensures.value) in
     let all : entries_of o ≡ (one ++ two) ++ entry (income_due o) ∷ [] = entry_parts o ∙ ap (λ es. es ++ entry (income_due o) ∷ []) (block_parts o) in
     let size : length one + length two + 1 ≤ length xs = omega (arith, session_count o, c.requires) in
-    c.write-income.ensures ∙ written_three one two wrote xs c.write-next.new.entries c.write-last.new.entries c.write-next.result c.write-last.result size c.write-next.ensures.entries c.write-next.ensures.next c.write-last.ensures.entries c.write-last.ensures.next
+    c.write_income.ensures ∙ written_three one two wrote xs c.write-next.new.entries c.write-last.new.entries c.write-next.result c.write-last.result size c.write-next.ensures.entries c.write-next.ensures.next c.write-last.ensures.entries c.write-last.ensures.next
     ∙ ap (λ y. written 0 ((one ++ two) ++ y ∷ []) xs) same ∙ ap (λ es. written 0 es xs) (sym all)

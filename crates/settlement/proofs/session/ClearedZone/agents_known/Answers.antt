@@ -10,10 +10,10 @@ pub returns-then-sellers : goal.returns-then-sellers
 returns-then-sellers c =
     let z = zone_of c.args.self in
     let known : Entry → Type 0 = λ e. has_account c.args.accounts.now e.agent ≡ true in
-    both_true known (side_entries selling z.price z.sales) (side_entries buying z.price z.purchases) (zone_entries z) (zone_parts z) c.if-sellers.true (c.agents-known-sellers.ensures z.price) (c.agents-known-buyers.ensures z.price)
+    both_true known (side_entries selling z.price z.sales) (side_entries buying z.price z.purchases) (zone_entries z) (zone_parts z) c.if-sellers.true (c.agents_known-sellers.ensures z.price) (c.agents_known-buyers.ensures z.price)
 
 pub returns-else-sellers : goal.returns-else-sellers
 returns-else-sellers c =
     let z = zone_of c.args.self in
     let known : Entry → Type 0 = λ e. has_account c.args.accounts.now e.agent ≡ true in
-    both_false known (side_entries selling z.price z.sales) (side_entries buying z.price z.purchases) (zone_entries z) (zone_parts z) c.if-sellers.false (c.agents-known-sellers.ensures z.price)
+    both_false known (side_entries selling z.price z.sales) (side_entries buying z.price z.purchases) (zone_entries z) (zone_parts z) c.if-sellers.false (c.agents_known-sellers.ensures z.price)

@@ -6,4 +6,4 @@ use Rattle.settlement.proofs.session.ClearedZone.matched_blocks.Goals as goal
 pub returns : goal.returns
 returns c =
     let count = zone_count (zone_of c.args.self) in
-    record { value = omega (arith, count, c.matched-blocks.ensures, c.matched-blocks-2.ensures); small = omega arith }
+    record { value = omega (arith, count, c.matched_blocks.ensures, c.matched_blocks-2.ensures); small = omega arith }

@@ -8,4 +8,4 @@ pub returns : goal.returns
 returns c =
     let fits : SFits w32 c.args.self.price = search rules in
     let parts = zone_total (λ e. e.cents) (zone_of c.args.self) (to_z w32 (of_z w32 c.args.self.price)) (to_z-of_z w32 c.args.self.price fits) in
-    record { value = omega (arith, ints, parts, c.total-cents.ensures.value, c.total-cents-2.ensures.value); small = omega (arith, ints, c.total-cents.ensures.small, c.total-cents-2.ensures.small) }
+    record { value = omega (arith, ints, parts, c.total_cents.ensures.value, c.total_cents-2.ensures.value); small = omega (arith, ints, c.total_cents.ensures.small, c.total_cents-2.ensures.small) }

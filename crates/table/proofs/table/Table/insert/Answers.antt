@@ -12,8 +12,8 @@ returns-then-n-self g c =
     let no : is_some (found o (o.named c.args.row) (take c.args.self.now.count c.args.self.now.rows.now)) ≡ false = search rules in
     record { edit = (found_none o (o.named c.args.row) _ no, search rules, (refl, refl)); keeps = λ w s. s; room = refl; lent = refl }
 
-pub open-at-requires : goal.open-at-requires
-open-at-requires g c = search (rules, length-take-le, prefix_len-le-length)
+pub open_at-requires : goal.open_at-requires
+open_at-requires g c = search (rules, length-take-le, prefix_len-le-length)
 
 pub returns : goal.returns
 returns g c =

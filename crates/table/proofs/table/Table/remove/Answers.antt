@@ -5,20 +5,20 @@ use Rattle.table.proofs.Keys.{found_at, found_none}
 use Rattle.table.proofs.Sounds.{sound_removed, was_removed}
 use Rattle.table.proofs.table.Table.remove.Goals as goal
 
-pub returns-in-default : goal.returns-in-default
-returns-in-default g c =
+pub returns-in_default : goal.returns-in_default
+returns-in_default g c =
     let o = g.R.Record.order in
     let no : is_some (found o c.args.key (take c.args.self.now.count c.args.self.now.rows.now)) ≡ false = search rules in
     record { edit = (found_none o c.args.key _ no, (refl, refl)); keeps = λ s. s; room = refl; lent = refl }
 
-pub close-at-requires : goal.close-at-requires
-close-at-requires g c =
+pub close_at-requires : goal.close_at-requires
+close_at-requires g c =
     let xs = c.args.self.now.rows.now in
     let f = found_at g.R.Record.order c.args.key (take c.args.self.now.count xs) c.in-Some.p (sym c.find.ensures ∙ c.in-Some.is) in
     (omega (arith, length-take c.args.self.now.count xs), omega arith)
 
-pub overflow-sub-self : goal.overflow-sub-self
-overflow-sub-self g c =
+pub overflow_sub-self : goal.overflow_sub-self
+overflow_sub-self g c =
     let xs = c.args.self.now.rows.now in
     let f = found_at g.R.Record.order c.args.key (take c.args.self.now.count xs) c.in-Some.p (sym c.find.ensures ∙ c.in-Some.is) in
     omega (arith, length-take c.args.self.now.count xs)
