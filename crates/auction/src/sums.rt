@@ -43,9 +43,9 @@ fn worth(price: i32, volume: u32) -> i64
 
 // What the matched volumes of a table are worth at the prices of their blocks.
 pub(crate) fn money_of<R: BlockRow>(rows: &[R]) -> i64
-    requires limits { WorthWithinLimits (map held rows.now) }
+    requires limits { WorthWithinLimits (map R.held rows.now) }
     requires few { length rows.now ≤ 256 }
-    ensures value { result ≡ money (map held rows.now) }
+    ensures value { result ≡ money (map R.held rows.now) }
     ensures within { (neg_ℤ (pos 7680000000000) ≤ℤ result) × (result ≤ℤ pos 7680000000000) }
 {
     let mut sum: i64 = 0;

@@ -17,7 +17,7 @@ use rules::sharing::SharingRule;
 // The rows of one zone as offers: merged with nothing.
 fn load<R: BlockRow>(side: Side, zone: Zone, rows: &[R], offers: &mut [Offer])
     requires { length offers.old ≡ length rows.now }
-    ensures { offers.new ≡ alone zone (map held rows.now) }
+    ensures { offers.new ≡ alone zone (map R.held rows.now) }
 {
     match zone {
         Zone::One => merge(side, rows, &rows[..0], offers),

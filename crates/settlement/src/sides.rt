@@ -14,7 +14,7 @@ use market::account::Account;
 
 // The matched volume of all blocks.
 pub(crate) fn matched_volume<B: Traded>(blocks: &[B]) -> u128
-    ensures value { result ≡ matched trade blocks.now }
+    ensures value { result ≡ matched B.trade blocks.now }
     ensures small { result < 2 ^ 96 }
 {
     let mut sum: u128 = 0;
@@ -26,7 +26,7 @@ pub(crate) fn matched_volume<B: Traded>(blocks: &[B]) -> u128
 
 // How many blocks have anything matched.
 pub(crate) fn matched_blocks<B: Traded>(blocks: &[B]) -> usize
-    ensures { result ≡ length (filter (is_matched trade) blocks.now) }
+    ensures { result ≡ length (filter (is_matched B.trade) blocks.now) }
 {
     let mut count = 0;
     for row in blocks {
@@ -39,7 +39,7 @@ pub(crate) fn matched_blocks<B: Traded>(blocks: &[B]) -> usize
 
 // The cents of a row's entry, or 0 if it has none.
 fn row_cents<B: Traded>(row: &B, price: i32) -> i64
-    ensures value { result ≡ total (λ e. e.cents) (side_entries trade price (row.now ∷ [])) }
+    ensures value { result ≡ total (λ e. e.cents) (side_entries B.trade price (row.now ∷ [])) }
     ensures small { unsigned_abs result ≤ 2 ^ 60 }
 {
     let block = row.block();
@@ -51,7 +51,7 @@ fn row_cents<B: Traded>(row: &B, price: i32) -> i64
 
 // The cents of a row's entry that go to the agent.
 fn row_posted<B: Traded>(row: &B, price: i32, agent: u32) -> i64
-    ensures value { result ≡ posted agent (side_entries trade price (row.now ∷ [])) }
+    ensures value { result ≡ posted agent (side_entries B.trade price (row.now ∷ [])) }
     ensures small { unsigned_abs result ≤ 2 ^ 60 }
 {
     if row.block().bid.agent != agent {
@@ -62,7 +62,7 @@ fn row_posted<B: Traded>(row: &B, price: i32, agent: u32) -> i64
 
 // The cents of all entries.
 pub(crate) fn total_cents<B: Traded>(blocks: &[B], price: i32) -> i128
-    ensures value { result ≡ total (λ e. e.cents) (side_entries trade price blocks.now) }
+    ensures value { result ≡ total (λ e. e.cents) (side_entries B.trade price blocks.now) }
     ensures small { unsigned_abs result ≤ 2 ^ 124 }
 {
     let mut sum: i128 = 0;
@@ -74,7 +74,7 @@ pub(crate) fn total_cents<B: Traded>(blocks: &[B], price: i32) -> i128
 
 // The cents of all entries that go to the agent.
 pub(crate) fn posted_cents<B: Traded>(blocks: &[B], price: i32, agent: u32) -> i128
-    ensures value { result ≡ posted agent (side_entries trade price blocks.now) }
+    ensures value { result ≡ posted agent (side_entries B.trade price blocks.now) }
     ensures small { unsigned_abs result ≤ 2 ^ 124 }
 {
     let mut sum: i128 = 0;
@@ -86,7 +86,7 @@ pub(crate) fn posted_cents<B: Traded>(blocks: &[B], price: i32, agent: u32) -> i
 
 // Whether a row needs no account, or its agent has one.
 fn row_known<B: Traded>(row: &B, accounts: &[Account]) -> bool
-    ensures { (price : ℤ) → Decides result (All (λ e. has_account accounts.now e.agent ≡ true) (side_entries trade price (row.now ∷ []))) }
+    ensures { (price : ℤ) → Decides result (All (λ e. has_account accounts.now e.agent ≡ true) (side_entries B.trade price (row.now ∷ []))) }
 {
     let block = row.block();
     block.matched == 0 || has_account(accounts, block.bid.agent)
@@ -94,7 +94,7 @@ fn row_known<B: Traded>(row: &B, accounts: &[Account]) -> bool
 
 // Whether the agent of every matched block has an account.
 pub(crate) fn agents_known<B: Traded>(blocks: &[B], accounts: &[Account]) -> bool
-    ensures { (price : ℤ) → Decides result (All (λ e. has_account accounts.now e.agent ≡ true) (side_entries trade price blocks.now)) }
+    ensures { (price : ℤ) → Decides result (All (λ e. has_account accounts.now e.agent ≡ true) (side_entries B.trade price blocks.now)) }
 {
     for row in blocks {
         if !row_known(row, accounts) {
@@ -106,9 +106,9 @@ pub(crate) fn agents_known<B: Traded>(blocks: &[B], accounts: &[Account]) -> boo
 
 // Writes a row's entry, if it has one, at the place; answers the next free place.
 fn write_row<B: Traded>(row: &B, price: i32, entries: &mut [Entry], place: usize) -> usize
-    requires { place + length (side_entries trade price (row.now ∷ [])) ≤ length entries.old }
-    ensures entries { entries.new ≡ written place (side_entries trade price (row.now ∷ [])) entries.old }
-    ensures next { result ≡ place + length (side_entries trade price (row.now ∷ [])) }
+    requires { place + length (side_entries B.trade price (row.now ∷ [])) ≤ length entries.old }
+    ensures entries { entries.new ≡ written place (side_entries B.trade price (row.now ∷ [])) entries.old }
+    ensures next { result ≡ place + length (side_entries B.trade price (row.now ∷ [])) }
 {
     let block = row.block();
     if block.matched == 0 {
@@ -130,9 +130,9 @@ pub(crate) fn write_side<B: Traded>(
     entries: &mut [Entry],
     place: usize,
 ) -> usize
-    requires { place + length (side_entries trade price blocks.now) ≤ length entries.old }
-    ensures entries { entries.new ≡ written place (side_entries trade price blocks.now) entries.old }
-    ensures next { result ≡ place + length (side_entries trade price blocks.now) }
+    requires { place + length (side_entries B.trade price blocks.now) ≤ length entries.old }
+    ensures entries { entries.new ≡ written place (side_entries B.trade price blocks.now) entries.old }
+    ensures next { result ≡ place + length (side_entries B.trade price blocks.now) }
 {
     let mut next = place;
     for row in blocks {

@@ -34,12 +34,12 @@ loop-offer-preserved g c =
     let h : i < length os = search rules in
     let f : SFits w32 (price_of o) = search rules in
     let p : c.place_of-place.result ≡ place m (rank (price_of o)) = rw (to_z-of_z w32 (price_of o) f) at c.place_of-place.ensures in
-    let e : c.part_matched.result.0 ≡ by_place (volume_of o) (s c.args.amount c.args.tied (c.loop-offer.passed + volume_of o) - s c.args.amount c.args.tied c.loop-offer.passed) 0 (place m (rank (price_of o))) =
-    c.part_matched.ensures.matched ∙ ap (by_place (volume_of o) (s c.args.amount c.args.tied (c.loop-offer.passed + volume_of o) - s c.args.amount c.args.tied c.loop-offer.passed) 0) p in
-    let e' : c.part_matched.result.1 ≡ by_place c.loop-offer.passed (c.loop-offer.passed + volume_of o) c.loop-offer.passed (place m (rank (price_of o))) =
-    c.part_matched.ensures.next ∙ ap (by_place c.loop-offer.passed (c.loop-offer.passed + volume_of o) c.loop-offer.passed) p in (
-      filled_more s rank m c.args.amount c.args.tied c.loop-offer.passed i os h c.part_matched.result.0 c.part_matched.result.1 e e' (fill s rank m c.args.amount c.args.tied 0 c.args.offers.now) c.loop-offer.invariant.0,
-      room_more s rank m c.args.amount c.args.tied c.loop-offer.passed i os h c.part_matched.result.0 c.part_matched.result.1 e e' c.loop-offer.invariant.1,
+    let e : c.part-matched.result.0 ≡ by_place (volume_of o) (s c.args.amount c.args.tied (c.loop-offer.passed + volume_of o) - s c.args.amount c.args.tied c.loop-offer.passed) 0 (place m (rank (price_of o))) =
+    c.part-matched.ensures.matched ∙ ap (by_place (volume_of o) (s c.args.amount c.args.tied (c.loop-offer.passed + volume_of o) - s c.args.amount c.args.tied c.loop-offer.passed) 0) p in
+    let e' : c.part-matched.result.1 ≡ by_place c.loop-offer.passed (c.loop-offer.passed + volume_of o) c.loop-offer.passed (place m (rank (price_of o))) =
+    c.part-matched.ensures.next ∙ ap (by_place c.loop-offer.passed (c.loop-offer.passed + volume_of o) c.loop-offer.passed) p in (
+      filled_more s rank m c.args.amount c.args.tied c.loop-offer.passed i os h c.part-matched.result.0 c.part-matched.result.1 e e' (fill s rank m c.args.amount c.args.tied 0 c.args.offers.now) c.loop-offer.invariant.0,
+      room_more s rank m c.args.amount c.args.tied c.loop-offer.passed i os h c.part-matched.result.0 c.part-matched.result.1 e e' c.loop-offer.invariant.1,
     )
 
 pub returns : goal.returns

@@ -5,7 +5,7 @@ use Rattle.callfile.proofs.forms.read_call.Goals as goal
 
 pub returns-in_err-call : goal.returns-in_err-call
 returns-in_err-call c =
-    let e : c.from-residual.result ≡ call_of c.args.line.now = search rules in
+    let e : c.from_residual.result ≡ call_of c.args.line.now = search rules in
     record { reads = reads_from _ _ e; long = long_from _ _ e }
 
 pub returns-then-is_empty : goal.returns-then-is_empty

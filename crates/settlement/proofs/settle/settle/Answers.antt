@@ -28,7 +28,7 @@ returns-then-not-limits_kept c =
 pub report-settled-requires : goal.report-settled-requires
 report-settled-requires c =
     let w = c.if-not-limits_kept.ensures.0 refl in
-    ((c.if-not-is_balanced.ensures.0 refl, c.entry_count-count.ensures.value), (w.incomes, w.residues))
+    record { balanced = (c.if-not-is_balanced.ensures.0 refl, c.entry_count-count.ensures.value); position_limits = (w.incomes, w.residues) }
 
 pub post-requires : goal.post-requires
 post-requires c = (c.if-not-limits_kept.ensures.0 refl).positions
