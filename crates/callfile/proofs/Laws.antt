@@ -1,5 +1,5 @@
 -- A reading is lawful if it takes just the texts of the fitting values from the front of a line.
-use Rattle.std.proofs.Common.{◌≡◌, ℕ, ◌+◌, ◌<◌, List, [], ◌∷◌, ◌++◌, Some, decimal, Option, sym, refl, ap, ◌∙◌, subst, append_assoc, arith}
+use Rattle.std.proofs.Common.{◌≡◌, ℕ, ◌<◌, List, [], ◌∷◌, ◌++◌, Some, decimal, Option, sym, refl, ap, ◌∙◌, subst, append_assoc, arith}
 use Rattle.std.specs.Option.{option_map}
 use Rattle.callfile.specs.Forms.{Reading, past, until, both, made}
 use Rattle.callfile.specs.Reading.{and_then, byte_of, number_of, value_from, value_of}

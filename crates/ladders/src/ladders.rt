@@ -30,8 +30,8 @@ pub struct Ladders<'a> {
 
 // Puts a row into its table.
 fn place<R: Record>(table: &mut Table<R>, row: R) -> Result<(), Refusal>
-    ensures why { FirstCause (row_causes order row table.old) result }
-    ensures after { Placed order row table.old table.new result }
+    ensures why { FirstCause (row_causes R.order row table.old) result }
+    ensures after { Placed R.order row table.old table.new result }
     ensures lent { table.new.rows.ghost_name ≡ table.old.rows.ghost_name }
 {
     match table.insert(row) {

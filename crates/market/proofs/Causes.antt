@@ -1,6 +1,6 @@
 -- How the first cause of a list follows from the first causes of its parts.
 use Rattle.std.proofs.Common.{List, [], ◌∷◌, ◌++◌, Ok, Err, Result}
-use Rattle.market.specs.Refusals.{Cause, FirstCause, RefusedFor}
+use Rattle.market.specs.Refusals.{Cause, FirstCause}
 use Rattle.market.specs.declared.refusal.Refusal.{Refusal}
 
 -- the front refuses

@@ -33,7 +33,7 @@ fn end_line<S: Service, W: Write>(
     out: &mut W,
     reading: &mut Reading,
 ) -> (S, io::Result<()>)
-    ensures turned { (line : List ℕ) → Within reading.old line → turns service (gathered line) result.0 }
+    ensures turned { (line : List ℕ) → Within reading.old line → S.turns service (gathered line) result.0 }
     ensures anew { Within reading.new [] }
 {
     let (next, done) = service.reply(out, reading.buffer.line());
@@ -49,7 +49,7 @@ fn take_byte<S: Service, W: Write>(
     reading: &mut Reading,
     byte: u8,
 ) -> (S, io::Result<()>)
-    ensures answered { (line : List ℕ) → Within reading.old line → Answered turns service (ended line (byte ∷ [])) result.0 }
+    ensures answered { (line : List ℕ) → Within reading.old line → Answered S.turns service (ended line (byte ∷ [])) result.0 }
     ensures within { (line : List ℕ) → Within reading.old line → Within reading.new (begun_after line (byte ∷ [])) }
 {
     if byte == b'\n' {
@@ -67,7 +67,7 @@ fn take_piece<S: Service, W: Write>(
     reading: &mut Reading,
     piece: &[u8],
 ) -> (S, io::Result<()>)
-    ensures answered { (line : List ℕ) → Within reading.old line → OnOk result.1 (Answered turns service (ended line piece.now) result.0) }
+    ensures answered { (line : List ℕ) → Within reading.old line → OnOk result.1 (Answered S.turns service (ended line piece.now) result.0) }
     ensures within { (line : List ℕ) → Within reading.old line → OnOk result.1 (Within reading.new (begun_after line piece.now)) }
 {
     let mut service = service;
@@ -87,7 +87,7 @@ fn finish<S: Service, W: Write>(
     out: &mut W,
     reading: &mut Reading,
 ) -> (S, io::Result<()>)
-    ensures { (line : List ℕ) → Within reading.old line → Answered turns service (last_line line) result.0 }
+    ensures { (line : List ℕ) → Within reading.old line → Answered S.turns service (last_line line) result.0 }
 {
     if reading.begun {
         return end_line(service, out, reading);
@@ -101,7 +101,7 @@ pub fn serve<S: Service, R: Read, W: Write>(
     input: &mut R,
     out: &mut W,
 ) -> (S, io::Result<()>)
-    ensures { OnOk result.1 ((lines : List (List ℕ)) × Answered turns service lines result.0) }
+    ensures { OnOk result.1 ((lines : List (List ℕ)) × Answered S.turns service lines result.0) }
 {
     let mut service = service;
     let mut reading = Reading {

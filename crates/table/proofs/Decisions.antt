@@ -1,5 +1,5 @@
 -- A test whose answer is known.
-use Rattle.std.proofs.Common.{◌≡◌, ℕ, Bool, true, false, Decides, refl, arith}
+use Rattle.std.proofs.Common.{◌≡◌, ℕ, true, false, Decides, refl, arith}
 
 pub decides_yes : {P : Type 0} → P → Decides true P
 decides_yes p = (λ e. p, λ q. refl)

@@ -1,12 +1,12 @@
 -- What an edit keeps of a sound table.
-use Rattle.std.proofs.Common.{◌≡◌, ℕ, suc, ◌+◌, ◌-◌, ◌<◌, ◌≤◌, min, Bool, true, false, cond, List, [], ◌∷◌, ◌++◌, length, take, drop, Some, None, sym, refl, ap, ◌∙◌, subst, ⊎_elim, add-one, one-add, arith}
+use Rattle.std.proofs.Common.{◌≡◌, ℕ, ◌+◌, ◌-◌, ◌<◌, min, Bool, true, false, cond, List, [], ◌∷◌, ◌++◌, length, take, drop, Some, sym, refl, ap, ◌∙◌, subst, ⊎_elim, add-one, one-add, arith}
 use Rattle.std.specs.List.{insert, remove, AllByRecursion as All}
 use Rattle.std.proofs.lemmas.Bool.{both_ways, cases_lt}
 use Rattle.std.proofs.lemmas.List.{length-take-le, take_all, take_at}
 use Rattle.std.proofs.lemmas.List.Edits.{length-insert, length-remove}
 use Rattle.std.proofs.lemmas.List.Sums.{prefix_len-le-length}
 use Rattle.table.specs.Order.{Order, Lawful}
-use Rattle.table.specs.Rows.{Absent, Apart, Rising, Sound, found, rank, seat, with_row, without}
+use Rattle.table.specs.Rows.{Absent, Rising, Sound, found, rank, with_row}
 use Rattle.table.specs.Edits.{Removed}
 use Rattle.table.proofs.Keys.{absent_everywhere, found_at}
 use Rattle.table.proofs.Pairs.{all_inserted, all_removed, pairwise_inserted, pairwise_removed}

@@ -1,5 +1,5 @@
 -- Numbers none of which stands twice. To believe: nothing; these words only serve the code inside the table.
-use Rattle.std.specs.Prelude.{◌≡◌, ℕ, ◌+◌, ◌%◌, ◌<◌, Bool, List, length, Some, None, Decides, Option, ◌≢◌, slice_index}
+use Rattle.std.specs.Prelude.{ℕ, ◌+◌, ◌%◌, ◌<◌, Bool, List, length, Some, None, Decides, Option, ◌≢◌, slice_index}
 
 abbrev pub Distinct : List ℕ → Type 0
 Distinct cs = (i j : ℕ) → i < length cs → j < length cs → (i ≢ j) → slice_index cs i ≢ slice_index cs j

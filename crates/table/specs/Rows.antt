@@ -1,6 +1,6 @@
 -- The counted rows of a table as a list: when they are sound, where a key stands, and the list that an edit leaves.
 -- To believe: that a sound table has every row within its limits, each row before every later one, and no key twice.
-use Rattle.std.specs.Prelude.{◌≡◌, ℕ, ◌<◌, Bool, true, false, cond, not, List, [], ◌∷◌, length, Some, None, Option, nat_lt}
+use Rattle.std.specs.Prelude.{◌≡◌, ℕ, ◌<◌, true, false, cond, not, List, [], ◌∷◌, length, Some, None, Option, nat_lt}
 use Rattle.std.specs.List.{prefix_len, insert, remove, AllByRecursion as All}
 use Rattle.table.specs.Order.{Order}
 
