@@ -1,5 +1,5 @@
 -- The clearing is a balanced schedule that its prices support, and no other is better.
-use Rattle.std.proofs.Common.{◌≡◌, ℕ, zero, suc, ◌+◌, ◌-◌, ◌<◌, ◌≤◌, Bool, true, false, cond, ◌⊎◌, List, [], ◌∷◌, map, length, ℤ, pos, negsuc, ◌-ℤ◌, ◌*ℤ◌, neg_ℤ, ◌≤ℤ◌, ◌<ℤ◌, sym, refl, ap, ◌∙◌, inl, inr, arith}
+use Rattle.std.proofs.Common.{◌≡◌, ℕ, zero, suc, ◌+◌, ◌≤◌, true, false, ◌⊎◌, List, [], ◌∷◌, length, ℤ, pos, negsuc, ◌-ℤ◌, ◌*ℤ◌, neg_ℤ, ◌≤ℤ◌, ◌<ℤ◌, sym, refl, ◌∙◌, inl, inr, arith}
 use borrow.Author.Differences.{ints}
 use lib.Signed.{le_z}
 use Rattle.std.specs.List.{AllByRecursion as All}
@@ -8,18 +8,17 @@ use Rattle.market.specs.declared.block.Block.{Block}
 use Rattle.market.specs.declared.zone.Zone.{Zone}
 use Rattle.market.specs.declared.zone.Zone.TheVariants.{One, Two}
 use Rattle.auction.specs.declared.line.Line.TheVariants.{Enough, There, Back}
-use Rattle.auction.specs.declared.offer.Offer.{Offer}
-use Rattle.auction.specs.Offers.{of_sales, of_purchases, alone, merged, part}
+use Rattle.auction.specs.Offers.{of_sales, of_purchases, alone, part}
 use Rattle.auction.specs.Curve.{curve}
-use Rattle.auction.specs.Books.{Book, Schedule, BookSame, BookWithin, Supports, Feasible, exported, imported, total, flow, surplus}
+use Rattle.auction.specs.Books.{Book, Schedule, BookSame, BookWithin, Supports, Feasible, exported, imported, total}
 use Rattle.auction.specs.Bracket.{low_end, high_end}
 use Rattle.rules.specs.Shares.{Shares}
-use Rattle.auction.specs.Clearing.{Pool, Outcome, line, matched_amount, together, exporting, importing, book_of, cleared, price_in, common, split, by_line, clearing}
-use Rattle.auction.specs.Best.{BookSound, Prices, Priced, ClearedWell, ClearingIsBest, Placed, TenthsPlaced}
+use Rattle.auction.specs.Clearing.{Pool, line, matched_amount, together, exporting, importing, book_of, cleared, price_in, common, split}
+use Rattle.auction.specs.Best.{BookSound, Prices, Priced, ClearedWell, ClearingIsBest, TenthsPlaced}
 use Rattle.auction.proofs.Congested.{export_raises_price}
 use Rattle.auction.proofs.Duality.{weak_duality}
-use Rattle.auction.proofs.Matching.{sum_of, match_all}
-use Rattle.auction.proofs.Merging.{part_alone, all_alone, part_one, part_two, sum_parts, sum_own}
+use Rattle.auction.proofs.Matching.{sum_of}
+use Rattle.auction.proofs.Merging.{part_alone, all_alone, part_one, part_two, sum_parts}
 use Rattle.auction.proofs.Pools.{PoolCleared, pool_cleared, ZoneCleared, zone_cleared, together_sound, together_room, alone_sound, exporting_room, importing_room, total_le}
 use Rattle.auction.proofs.Kept.{zones_kept}
 

@@ -1,9 +1,8 @@
 -- Weak duality: a schedule that prices support has the greatest surplus.
-use Rattle.std.proofs.Common.{◌≡◌, ℕ, ◌+◌, ◌-◌, ◌*◌, ◌<◌, ◌≤◌, ◌⊎◌, List, [], ◌∷◌, map, ℤ, pos, negsuc, ◌+ℤ◌, ◌-ℤ◌, ◌*ℤ◌, neg_ℤ, ◌≤ℤ◌, ◌<ℤ◌, sym, refl, ap, ◌∙◌, inl, inr, mul-le-mul_right, mul-le-mul_left, arith}
+use Rattle.std.proofs.Common.{◌≡◌, ℕ, ◌+◌, ◌-◌, ◌<◌, ◌≤◌, ◌⊎◌, List, [], ◌∷◌, ℤ, pos, ◌+ℤ◌, ◌-ℤ◌, ◌*ℤ◌, neg_ℤ, ◌≤ℤ◌, ◌<ℤ◌, sym, ap, ◌∙◌, inl, inr, mul-le-mul_right, arith}
 use borrow.Author.Differences.{ints, up, down}
 use Rattle.std.specs.List.{AllByRecursion as All}
-use Rattle.std.proofs.lemmas.Bool.{cases_lt, cases_order}
-use Rattle.market.specs.declared.block.Bid.{Bid}
+use Rattle.std.proofs.lemmas.Bool.{cases_order}
 use Rattle.market.specs.declared.block.Block.{Block}
 use Rattle.auction.specs.Books.{total, money, Within, SameBids, SaleFair, PurchaseFair, Book, gain, BookWithin, BookSame, Supports, Schedule, Feasible, flow, surplus}
 use Rattle.auction.specs.Best.{Priced}

@@ -1,5 +1,5 @@
 -- Loops over the offers of a side, and over those that they fill in place.
-use Rattle.std.proofs.Common.{◌≡◌, ℕ, zero, suc, ◌+◌, ◌-◌, ◌<◌, ◌≤◌, ◌⊎◌, List, [], ◌∷◌, ◌++◌, map, length, get_or, take, drop, set, ℤ, sym, refl, ap, ◌∙◌, inl, inr, arith}
+use Rattle.std.proofs.Common.{◌≡◌, ℕ, zero, suc, ◌+◌, ◌-◌, ◌<◌, ◌≤◌, List, ◌∷◌, ◌++◌, length, get_or, take, drop, set, ℤ, sym, refl, ap, ◌∙◌, inl, inr, arith}
 use Rattle.std.specs.List.{AllByRecursion as All}
 use Rattle.std.proofs.ByRecursion.{All-get_or}
 use Rattle.std.proofs.lemmas.List.{append_assoc, take_more_set, drop-set-lt, drop_more}
@@ -9,7 +9,7 @@ use Rattle.auction.specs.declared.side.Place.{Place}
 use Rattle.auction.specs.declared.side.Place.TheVariants.{Before, Tied, After}
 use Rattle.auction.specs.Curve.{behind, nth_price, place, by_place, ahead, tie, fill, match_side, with_matched, nothing}
 use Rattle.auction.specs.Offers.{price_of, volume_of, Sorted}
-use Rattle.auction.proofs.Sides.{blank, place_is, place_tied, tenths, shared_out}
+use Rattle.auction.proofs.Sides.{blank, place_is, tenths, shared_out}
 
 pub before_le : (v : ℕ) (x : Place) → by_place v 0 0 x ≤ v
 before_le v Before = omega arith

@@ -1,9 +1,9 @@
 -- The downward search finds the amount.
-use Rattle.std.proofs.Common.{◌≡◌, ℕ, zero, suc, ◌+◌, ◌-◌, ◌<◌, ◌≤◌, min, Bool, true, false, cond, ◌⊎◌, List, length, ℤ, ◌≤ℤ◌, sym, refl, subst, inl, inr, arith}
+use Rattle.std.proofs.Common.{◌≡◌, ℕ, zero, suc, ◌≤◌, min, Bool, true, ◌⊎◌, length, ◌≤ℤ◌, sym, refl, inl, inr, arith}
 use borrow.Author.Differences.{ints}
 use lib.Signed.{le_z}
 use Rattle.std.proofs.lemmas.Bool.{cases_Bool, cases_lt, both_ways}
-use Rattle.auction.specs.Curve.{nth_price, Meet, Amount, down_from, amount}
+use Rattle.auction.specs.Curve.{nth_price, Meet, down_from, amount}
 use Rattle.auction.specs.Best.{AmountFound}
 
 -- the search stays within its start, and stops at 0 or where the test passes

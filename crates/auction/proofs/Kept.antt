@@ -1,8 +1,7 @@
 -- A pool of one zone's blocks stays one.
-use Rattle.std.proofs.Common.{◌≡◌, ℕ, List, [], ◌∷◌, map, refl}
+use Rattle.std.proofs.Common.{◌≡◌, ℕ}
 use Rattle.std.specs.List.{AllByRecursion as All}
 use Rattle.market.specs.declared.zone.Zone.{Zone}
-use Rattle.auction.specs.declared.offer.Offer.{Offer}
 use Rattle.auction.specs.Offers.{of_sales, of_purchases, part}
 use Rattle.auction.specs.Books.{total}
 use Rattle.market.specs.Limits.{lowest_price, highest_price}

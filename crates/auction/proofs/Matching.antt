@@ -1,9 +1,8 @@
 -- What is matched of a side: it sums to the amount less the tenths ahead, and stays within the bids.
-use Rattle.std.proofs.Common.{◌≡◌, ℕ, zero, suc, ◌+◌, ◌-◌, ◌<◌, ◌≤◌, ◌⊎◌, List, [], ◌∷◌, map, length, ℤ, pos, sym, refl, ap, ◌∙◌, inl, inr, arith}
+use Rattle.std.proofs.Common.{◌≡◌, ℕ, zero, suc, ◌+◌, ◌-◌, ◌≤◌, List, [], ◌∷◌, length, ℤ, refl, ap, inl, inr, arith}
 use Rattle.std.specs.List.{AllByRecursion as All}
 use Rattle.std.proofs.lemmas.Bool.{cases_Bool}
 use Rattle.market.specs.declared.block.Bid.{Bid}
-use Rattle.market.specs.declared.block.Block.{Block}
 use Rattle.market.specs.declared.zone.Zone.{Zone}
 use Rattle.auction.specs.declared.offer.Offer.{Offer}
 use Rattle.auction.specs.Offers.{price_of, volume_of, matched_of, Sorted, same_zone, part}

@@ -1,5 +1,5 @@
 -- The zones merged into one list, and taken apart again.
-use Rattle.std.proofs.Common.{◌≡◌, ℕ, ◌+◌, ◌<◌, ◌≤◌, Bool, true, false, cond, ◌⊎◌, List, [], ◌∷◌, map, ℤ, pos, ◌≤ℤ◌, ◌<ℤ◌, sym, refl, ap, ◌∙◌, inl, inr, arith}
+use Rattle.std.proofs.Common.{◌≡◌, ℕ, ◌+◌, Bool, true, false, cond, List, [], ◌∷◌, ℤ, ◌≤ℤ◌, refl, ap, inl, inr, arith}
 use borrow.Author.Differences.{ints}
 use lib.Signed.{lt_z}
 use Rattle.std.specs.List.{AllByRecursion as All}
@@ -10,7 +10,7 @@ use Rattle.market.specs.declared.block.Block.{Block}
 use Rattle.market.specs.declared.zone.Zone.{Zone}
 use Rattle.market.specs.declared.zone.Zone.TheVariants.{One, Two}
 use Rattle.auction.specs.declared.offer.Offer.{Offer}
-use Rattle.auction.specs.Offers.{price_of, Sorted, second_first, comes_first, in_zone, alone, weave, merged, same_zone, part}
+use Rattle.auction.specs.Offers.{Sorted, second_first, comes_first, in_zone, alone, weave, merged, same_zone, part}
 use Rattle.market.specs.Precedence.{lex, at_one_price}
 use Rattle.auction.specs.Curve.{place, by_place}
 use Rattle.auction.specs.Books.{total}

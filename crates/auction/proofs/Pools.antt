@@ -1,15 +1,12 @@
 -- What is cleared as one: how much of it, and which prices support it.
-use Rattle.std.proofs.Common.{◌≡◌, ℕ, zero, suc, ◌+◌, ◌-◌, ◌<◌, ◌≤◌, ◌⊎◌, List, [], ◌∷◌, map, length, ℤ, pos, ◌-ℤ◌, neg_ℤ, ◌≤ℤ◌, ◌<ℤ◌, sym, refl, ap, ◌∙◌, inl, inr, arith}
+use Rattle.std.proofs.Common.{◌≡◌, ℕ, zero, suc, ◌-◌, ◌≤◌, List, [], ◌∷◌, length, ℤ, ◌≤ℤ◌, arith}
 use borrow.Author.Differences.{ints}
-use Rattle.std.specs.List.{AllByRecursion as All}
 use Rattle.std.proofs.ByRecursion.{All-weaker}
 use Rattle.market.specs.declared.block.Block.{Block}
 use Rattle.market.specs.declared.zone.Zone.{Zone}
-use Rattle.market.specs.declared.zone.Zone.TheVariants.{One, Two}
-use Rattle.auction.specs.declared.offer.Offer.{Offer}
-use Rattle.auction.specs.Offers.{price_of, volume_of, matched_of, of_sales, of_purchases, Sorted, alone, merged, part}
-use Rattle.auction.specs.Curve.{curve, Amount, Meet, amount, match_side}
-use Rattle.auction.specs.Books.{Book, BookSame, BookWithin, SameBids, Within, Supports, SaleFair, PurchaseFair, exported, total}
+use Rattle.auction.specs.Offers.{price_of, of_sales, of_purchases, Sorted, alone, merged, part}
+use Rattle.auction.specs.Curve.{curve, Amount, Meet, match_side}
+use Rattle.auction.specs.Books.{Book, BookSame, BookWithin, SameBids, Within, Supports, SaleFair, PurchaseFair, total}
 use Rattle.market.specs.Limits.{lowest_price, highest_price}
 use Rattle.auction.specs.Bracket.{low_end, high_end}
 use Rattle.rules.specs.Shares.{Shares}
@@ -17,10 +14,10 @@ use Rattle.auction.specs.Clearing.{Pool, Room, supply, demand, matched_amount, t
 use Rattle.auction.specs.Best.{InLimits, BookSound}
 use Rattle.auction.proofs.Duality.{same_none, same_some, same_first, same_rest}
 use Rattle.auction.proofs.Found.{amount_found}
-use Rattle.auction.proofs.Matching.{sum_of, Matched, side_matched, match_all, match_bids}
-use Rattle.auction.proofs.Merging.{part_alone, all_alone, sorted_alone, all_merged, sorted_merged, part_one, part_two, all_part, sum_parts, sum_own}
-use Rattle.auction.proofs.Sides.{tenths, bid_cons, here, at_least}
-use Rattle.auction.proofs.Supporting.{Fair, Limited, ranged, bracket_supports, in_bracket, between, between_supports, amount_bounds}
+use Rattle.auction.proofs.Matching.{Matched, side_matched, match_bids}
+use Rattle.auction.proofs.Merging.{all_alone, sorted_alone, all_merged, sorted_merged, all_part}
+use Rattle.auction.proofs.Sides.{tenths, bid_cons, here}
+use Rattle.auction.proofs.Supporting.{Limited, ranged, bracket_supports, in_bracket, between, between_supports, amount_bounds}
 
 -- the sides of a pool are in order and within the limits
 pub record PoolSound (x : Pool) : Type 0 where

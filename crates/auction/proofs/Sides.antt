@@ -1,5 +1,5 @@
 -- One side: its curve, and what is ahead of a rank or tied at it.
-use Rattle.std.proofs.Common.{◌≡◌, ℕ, zero, suc, ◌+◌, ◌-◌, ◌<◌, ◌≤◌, Bool, true, false, cond, ◌⊎◌, List, [], ◌∷◌, ◌++◌, length, get_or, take, replicate, ℤ, pos, neg_ℤ, ◌≤ℤ◌, ◌<ℤ◌, sym, refl, ap, ◌∙◌, inl, inr, arith}
+use Rattle.std.proofs.Common.{◌≡◌, ℕ, zero, suc, ◌+◌, ◌-◌, ◌<◌, ◌≤◌, true, false, ◌⊎◌, List, [], ◌∷◌, length, get_or, take, replicate, ℤ, pos, neg_ℤ, ◌≤ℤ◌, ◌<ℤ◌, sym, refl, ap, ◌∙◌, inl, inr, arith}
 use borrow.Author.Differences.{ints}
 use lib.Signed.{lt_z}
 use Rattle.std.specs.List.{AllByRecursion as All}
@@ -11,7 +11,7 @@ use Rattle.auction.specs.declared.offer.Offer.{Offer}
 use Rattle.market.specs.declared.zone.Zone.TheVariants.{One}
 use Rattle.auction.specs.Offers.{price_of, volume_of, Sorted}
 use Rattle.auction.specs.declared.side.Place.TheVariants.{Before, Tied, After}
-use Rattle.auction.specs.Curve.{curve, behind, nth_price, place, by_place, ahead, tie}
+use Rattle.auction.specs.Curve.{curve, behind, nth_price, place, ahead, tie}
 
 -- how many tenths a side bids for
 abbrev pub bid : List Offer → ℕ

@@ -1,7 +1,6 @@
 -- The steps of a clearing make up the whole of it.
-use Rattle.std.proofs.Common.{◌≡◌, ℕ, ◌+◌, ◌≤◌, List, [], ◌∷◌, ◌++◌, map, length, drop, ℤ, pos, ◌-ℤ◌, neg_ℤ, ◌≤ℤ◌, ◌<ℤ◌, sym, refl, ap, ◌∙◌, arith}
+use Rattle.std.proofs.Common.{◌≡◌, ℕ, List, ◌++◌, length, drop, ℤ, pos, ◌-ℤ◌, neg_ℤ, ◌<ℤ◌, sym, refl, ap, ◌∙◌, arith}
 use borrow.Author.Differences.{ints}
-use Rattle.std.specs.List.{AllByRecursion as All}
 use Rattle.market.specs.declared.block.Block.{Block}
 use Rattle.market.specs.declared.zone.Zone.{Zone}
 use Rattle.market.specs.declared.zone.Zone.TheVariants.{One, Two}
@@ -11,8 +10,8 @@ use Rattle.auction.specs.declared.offer.Offer.{Offer}
 use Rattle.rules.specs.Shares.{Shares}
 use Rattle.auction.specs.Best.{BookSound}
 use Rattle.auction.specs.Books.{Book, exported, imported, total}
-use Rattle.auction.specs.Clearing.{Pool, Room, book_of, cleared, clearing, exporting, importing, line, price_in, together}
-use Rattle.auction.specs.Offers.{of_sales, of_purchases, part}
+use Rattle.auction.specs.Clearing.{Pool, Room, book_of, cleared, exporting, importing, price_in, together}
+use Rattle.auction.specs.Offers.{part}
 use Rattle.auction.specs.Steps.{CommonFound, Clears}
 use Rattle.auction.proofs.Best.{whole₁, whole₂, whole_balanced, sells_enough, buys_enough, over_there, over_back}
 use Rattle.auction.proofs.Pools.{exporting_room, importing_room}

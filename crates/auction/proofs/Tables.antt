@@ -1,15 +1,13 @@
 -- Sound tables give sides that are ready to clear.
-use Rattle.std.proofs.Common.{◌≡◌, ℕ, ◌+◌, ◌≤◌, true, List, [], ◌∷◌, ◌++◌, map, length, drop, ℤ, ◌≤ℤ◌, sym, refl, ap, ◌∙◌, arith}
-use borrow.Author.Differences.{ints}
+use Rattle.std.proofs.Common.{◌≡◌, ℕ, true, List, [], ◌∷◌, ◌++◌, length, drop, ◌≤ℤ◌, sym, refl, ap, ◌∙◌, arith}
 use Rattle.std.specs.List.{AllByRecursion as All}
 use Rattle.std.proofs.ByRecursion.{All-weaker, All-map}
 use Rattle.std.proofs.lemmas.List.{length-map, drop_all, append-nil}
-use Rattle.table.specs.Rows.{Sound, Rising}
+use Rattle.table.specs.Rows.{Rising}
 use Rattle.market.specs.declared.block.Block.{Block}
 use Rattle.market.specs.declared.purchase.Purchase.{Purchase}
 use Rattle.market.specs.declared.sale.Sale.{Sale}
 use Rattle.market.specs.declared.zone.Zone.{Zone}
-use Rattle.market.specs.declared.zone.Zone.TheVariants.{One, Two}
 use Rattle.market.specs.Limits.{BlockWithinLimits, PriceWithinLimits, VolumeWithinLimits}
 use Rattle.market.specs.Precedence.{sale_order, purchase_order}
 use Rattle.auction.specs.Offers.{of_sales, of_purchases, comes_first, merged, alone, in_zone, part}

@@ -1,13 +1,12 @@
 -- Rows of two tables, merged into offers and written back. f is the block that a row holds.
-use Rattle.std.proofs.Common.{◌≡◌, ℕ, ◌+◌, ◌-◌, ◌<◌, ◌≤◌, Bool, true, false, cond, ◌⊎◌, List, [], ◌∷◌, ◌++◌, map, length, get_or, take, drop, set, ℤ, sym, refl, ap, ◌∙◌, inl, inr, arith}
-use Rattle.std.proofs.lemmas.List.{append-nil, append_assoc, drop_more, drop_all, length-map, length-drop, length-append, take-append-drop, take_all, take_more, take_more_set, set-append_right, drop-drop}
+use Rattle.std.proofs.Common.{◌≡◌, ℕ, ◌+◌, ◌-◌, ◌<◌, ◌≤◌, Bool, true, false, cond, List, [], ◌∷◌, ◌++◌, map, length, get_or, take, drop, set, ℤ, sym, refl, ap, ◌∙◌, inl, inr, arith}
+use Rattle.std.proofs.lemmas.List.{append-nil, append_assoc, drop_more, drop_all, length-map, length-drop, length-append, take-append-drop, take_more, take_more_set, set-append_right}
 use Rattle.std.proofs.lemmas.Bool.{cases_Bool, cases_lt, both_ways}
 use Rattle.market.specs.declared.block.Block.{Block}
 use Rattle.market.specs.declared.zone.Zone.{Zone}
 use Rattle.market.specs.declared.zone.Zone.TheVariants.{One, Two}
 use Rattle.auction.specs.declared.offer.Offer.{Offer}
 use Rattle.auction.specs.Offers.{second_first, comes_first, in_zone, alone, merged, same_zone, part}
-use Rattle.auction.proofs.Merging.{merge_second, merge_first}
 use Rattle.auction.proofs.Sides.{blank}
 
 some_left : (rank : ℤ → ℤ) (bs : List Block) → 0 < length bs → second_first rank bs [] ≡ false

@@ -1,5 +1,5 @@
 -- The worked results, by computation.
-use Rattle.std.proofs.Common.{◌≡◌, refl}
+use Rattle.std.proofs.Common.{refl}
 use Rattle.auction.specs.Offers.{comes_first}
 use Rattle.auction.specs.Curve.{amount, place}
 use Rattle.auction.specs.Bracket.{low_end, high_end}

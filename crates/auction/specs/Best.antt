@@ -1,16 +1,15 @@
 -- What is proved of a clearing. To believe: the hypotheses, which are the checks of the tables and the laws of the two rules, and the
 -- words of the schedules.
-use Rattle.std.specs.Prelude.{◌≡◌, ℕ, ◌<◌, ◌≤◌, ◌⊎◌, List, [], ◌∷◌, ℤ, pos, ◌-ℤ◌, ◌*ℤ◌, neg_ℤ, ◌≤ℤ◌, ◌<ℤ◌}
+use Rattle.std.specs.Prelude.{◌≡◌, ℕ, ◌≤◌, ◌⊎◌, List, [], ◌∷◌, ℤ, pos, ◌-ℤ◌, ◌*ℤ◌, neg_ℤ, ◌≤ℤ◌, ◌<ℤ◌}
 use Rattle.std.specs.List.{AllByRecursion as All}
 use Rattle.market.specs.declared.block.Block.{Block}
-use Rattle.market.specs.declared.zone.Zone.{Zone}
 use Rattle.market.specs.declared.zone.Zone.TheVariants.{One, Two}
 use Rattle.auction.specs.Offers.{of_sales, of_purchases}
-use Rattle.auction.specs.Curve.{Amount, Meet, nth_price, amount}
+use Rattle.auction.specs.Curve.{Amount, amount}
 use Rattle.auction.specs.Books.{Book, Schedule, BookSame, Supports, Feasible, flow, surplus, exported}
 use Rattle.market.specs.Limits.{PriceWithinLimits}
 use Rattle.rules.specs.Shares.{Shares}
-use Rattle.auction.specs.Clearing.{Pool, Outcome, supply, demand, matched_amount, together, exporting, importing, book_of, cleared, clearing}
+use Rattle.auction.specs.Clearing.{Pool, Outcome, matched_amount, together, exporting, importing, book_of, cleared, clearing}
 
 abbrev pub InLimits : List Block → Type 0
 InLimits bs = All (λ b. PriceWithinLimits b.bid.price) bs

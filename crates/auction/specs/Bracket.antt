@@ -1,5 +1,5 @@
 -- The bracket: the prices that the matched volumes leave open. To believe: its low end and its high end.
-use Rattle.std.specs.Prelude.{ℕ, Bool, cond, List, [], ◌∷◌, ℤ, nat_lt}
+use Rattle.std.specs.Prelude.{Bool, cond, List, [], ◌∷◌, ℤ, nat_lt}
 use Rattle.std.specs.Int.{int_max, int_min}
 use Rattle.market.specs.Limits.{lowest_price, highest_price}
 use Rattle.auction.specs.declared.bracket.Part.{Part}

@@ -1,6 +1,5 @@
 -- Clearing one period. To believe: what is cleared together and what alone, where the K tenths of a split stand, and the prices.
-use Rattle.std.specs.Prelude.{ℕ, ◌≤◌, Bool, true, false, cond, List, ℤ, pos, neg_ℤ, int_le}
-use Rattle.market.specs.declared.block.Block.{Block}
+use Rattle.std.specs.Prelude.{ℕ, ◌≤◌, cond, List, ℤ, pos, neg_ℤ, int_le}
 use Rattle.market.specs.declared.zone.Zone.{Zone}
 use Rattle.market.specs.declared.zone.Zone.TheVariants.{One, Two}
 use Rattle.auction.specs.declared.line.Line.{Line}

@@ -1,6 +1,6 @@
 -- The curve of a side, where the two curves meet, and what is matched of each block. To believe: the n-th tenth of a curve has the
 -- price of the block that holds it; the matched amount; and how the blocks of the marginal price share.
-use Rattle.std.specs.Prelude.{◌≡◌, ℕ, zero, suc, ◌+◌, ◌-◌, ◌<◌, ◌≤◌, min, Bool, true, false, cond, ◌⊎◌, List, [], ◌∷◌, ◌++◌, map, length, replicate, ℤ, pos, ◌≤ℤ◌, int_le, int_lt, slice_index_or}
+use Rattle.std.specs.Prelude.{◌≡◌, ℕ, zero, suc, ◌+◌, ◌-◌, ◌≤◌, min, Bool, cond, ◌⊎◌, List, [], ◌∷◌, ◌++◌, map, length, replicate, ℤ, pos, ◌≤ℤ◌, int_le, int_lt, slice_index_or}
 use Rattle.auction.specs.declared.offer.Offer.{Offer}
 use Rattle.auction.specs.declared.side.Place.{Place}
 use Rattle.auction.specs.declared.side.Place.TheVariants.{Before, Tied, After}

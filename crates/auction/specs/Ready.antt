@@ -1,5 +1,5 @@
 -- What the steps of a clearing are given: one side, as the checks of the tables leave it.
-use Rattle.std.specs.Prelude.{ℕ, ◌≤◌, List, length, ℤ}
+use Rattle.std.specs.Prelude.{◌≤◌, List, length, ℤ}
 use Rattle.std.specs.List.{AllByRecursion as All}
 use Rattle.market.specs.Limits.{PriceWithinLimits, VolumeWithinLimits}
 use Rattle.auction.specs.declared.offer.Offer.{Offer}

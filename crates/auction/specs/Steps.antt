@@ -1,10 +1,8 @@
 -- What the steps of a clearing answer, and what the whole of it does.
 use Rattle.std.specs.Prelude.{◌≡◌, ℕ, ℤ}
-use Rattle.market.specs.declared.zone.Zone.TheVariants.{One, Two}
+use Rattle.market.specs.declared.zone.Zone.TheVariants.{One}
 use Rattle.auction.specs.declared.line.Line.{Line}
-use Rattle.auction.specs.declared.line.Line.TheVariants.{Enough}
-use Rattle.auction.specs.Best.{ClearedWell}
-use Rattle.auction.specs.Books.{Book, exported, surplus}
+use Rattle.auction.specs.Books.{Book, exported}
 use Rattle.auction.specs.Clearing.{book_of, cleared, clearing, line, price_in, together}
 
 module _ (g : ℕ → ℕ → ℕ → ℕ) (f : ℤ → ℤ → ℤ) (forward backward : ℕ) (b₁ b₂ : Book) where

@@ -1,6 +1,6 @@
 -- The block tables that are cleared, as lists of their counted rows. To believe: that they are sound as their checks leave them, and no
 -- longer than a table may be.
-use Rattle.std.specs.Prelude.{ℕ, ◌≤◌, List, map, length}
+use Rattle.std.specs.Prelude.{◌≤◌, List, map, length}
 use Rattle.std.specs.List.{AllByRecursion as All}
 use Rattle.table.specs.Rows.{Sound}
 use Rattle.market.specs.declared.block.Block.{Block}

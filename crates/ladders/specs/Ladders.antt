@@ -12,8 +12,6 @@ use Rattle.market.specs.declared.block.Bid.{Bid}
 use Rattle.market.specs.declared.call.Call.TheVariants.{Enter}
 use Rattle.market.specs.declared.refusal.Refusal.{Refusal}
 use Rattle.market.specs.declared.refusal.Refusal.TheVariants.{OutsideLimits, KeyTaken, TableFull, NoForm}
-use Rattle.market.specs.declared.sale.Sale as sale
-use Rattle.market.specs.declared.purchase.Purchase as purchase
 use Rattle.market.specs.declared.zone.Side.{Side}
 use Rattle.market.specs.declared.zone.Side.TheVariants.{Sale, Purchase}
 use Rattle.market.specs.declared.zone.Zone.{Zone}

@@ -43,7 +43,7 @@ fn check_tables<R: Record>(
     accounts: &mut [Account],
     owners: usize,
 ) -> Result<(), Refusal>
-    ensures why { FirstCause (standing_causes (kind order limits most) (lent rows.old count) (lent accounts.old owners)) result }
+    ensures why { FirstCause (standing_causes (kind R.order R.limits R.most) (lent rows.old count) (lent accounts.old owners)) result }
     ensures rows { rows.new ≡ rows.old }
     ensures accounts { accounts.new ≡ accounts.old }
 {
@@ -65,8 +65,8 @@ fn put_owned<R: Record>(
     agent: u32,
     row: R,
 ) -> Result<usize, Refusal>
-    ensures why { FirstCause (owned_causes (kind order limits most) row agent (lent rows.old count) (lent accounts.old owners)) result }
-    ensures after { Leaves rows.old (Becomes (put_in (kind order limits most) row (lent rows.old count))) result rows.new }
+    ensures why { FirstCause (owned_causes (kind R.order R.limits R.most) row agent (lent rows.old count) (lent accounts.old owners)) result }
+    ensures after { Leaves rows.old (Becomes (put_in (kind R.order R.limits R.most) row (lent rows.old count))) result rows.new }
     ensures accounts { accounts.new ≡ accounts.old }
 {
     if stands(accounts, owners, agent) {
@@ -85,8 +85,8 @@ fn put_bid<R: Record>(
     bid: Bid,
     row: R,
 ) -> Result<usize, Refusal>
-    ensures why { FirstCause (bid_causes bid ++ owned_causes (kind order limits most) row bid.agent (lent rows.old count) (lent accounts.old owners)) result }
-    ensures after { Leaves rows.old (Becomes (put_in (kind order limits most) row (lent rows.old count))) result rows.new }
+    ensures why { FirstCause (bid_causes bid ++ owned_causes (kind R.order R.limits R.most) row bid.agent (lent rows.old count) (lent accounts.old owners)) result }
+    ensures after { Leaves rows.old (Becomes (put_in (kind R.order R.limits R.most) row (lent rows.old count))) result rows.new }
     ensures accounts { accounts.new ≡ accounts.old }
 {
     match bid.check() {
@@ -104,8 +104,8 @@ fn enter_row<R: Record>(
     bid: Bid,
     row: R,
 ) -> Result<usize, Refusal>
-    ensures why { FirstCause (row_enter_causes (kind order limits most) row bid (lent rows.old count) (lent accounts.old owners)) result }
-    ensures after { Leaves rows.old (Becomes (put_in (kind order limits most) row (lent rows.old count))) result rows.new }
+    ensures why { FirstCause (row_enter_causes (kind R.order R.limits R.most) row bid (lent rows.old count) (lent accounts.old owners)) result }
+    ensures after { Leaves rows.old (Becomes (put_in (kind R.order R.limits R.most) row (lent rows.old count))) result rows.new }
     ensures accounts { accounts.new ≡ accounts.old }
 {
     match check_tables(rows, count, accounts, owners) {
@@ -120,8 +120,8 @@ fn withdraw_row<R: Record<Key = BlockKey>>(
     count: usize,
     key: BlockKey,
 ) -> Result<usize, Refusal>
-    ensures why { FirstCause (row_withdraw_causes (kind order limits most) key (lent rows.old count)) result }
-    ensures after { Leaves rows.old (Becomes (taken_out (kind order limits most) key (lent rows.old count))) result rows.new }
+    ensures why { FirstCause (row_withdraw_causes (kind R.order R.limits R.most) key (lent rows.old count)) result }
+    ensures after { Leaves rows.old (Becomes (taken_out (kind R.order R.limits R.most) key (lent rows.old count))) result rows.new }
 {
     if !fits(rows, count) {
         return Err(Refusal::TableSize);

@@ -64,8 +64,8 @@ mod tests {
             price: 2005,
         };
         let two = ClearedZone {
-            sales: &[],
-            purchases: &[],
+            sales: &sales[..0],
+            purchases: &purchases[..0],
             price: 2005,
         };
         let mut accounts = [

@@ -1,5 +1,5 @@
-use Rattle.std.proofs.Common.{ℕ, List, ◌++◌, take, sym, ◌∙◌, rules}
-use Rattle.service.specs.Lines.{Answered, Within, begun_after, ended, last_line}
+use Rattle.std.proofs.Common.{sym, ◌∙◌, rules}
+use Rattle.service.specs.Lines.{last_line}
 use Rattle.service.proofs.Lines.{answered_append, made_all, made_ok}
 use Rattle.service.proofs.serve.Goals as goal
 

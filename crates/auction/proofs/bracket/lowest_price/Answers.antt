@@ -1,5 +1,4 @@
-use Rattle.std.proofs.Common.{◌≡◌, ℕ, ◌<◌, ◌≤◌, Bool, cond, length, get_or, ℤ, sym, refl, ap, ◌∙◌, arith, w32, SFits, to_z, of_z, rules}
-use Rattle.std.specs.Int.{int_min}
+use Rattle.std.proofs.Common.{◌<◌, ◌≤◌, length, get_or, ℤ, ap, ◌∙◌, w32, SFits, rules}
 use Rattle.std.proofs.lemmas.List.{drop_all}
 use Rattle.std.proofs.lemmas.Int.{to_z-of_z}
 use Rattle.auction.specs.Bracket.{lowest, passes}

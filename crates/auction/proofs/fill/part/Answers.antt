@@ -1,4 +1,4 @@
-use Rattle.std.proofs.Common.{ℕ, ◌+◌, ◌≤◌, arith, rules}
+use Rattle.std.proofs.Common.{◌+◌, ◌≤◌, arith}
 use Rattle.auction.proofs.fill.part.Goals as goal
 
 pub overflow_sub-result : goal.overflow_sub-result

@@ -1,7 +1,6 @@
-use Rattle.std.proofs.Common.{◌≡◌, ℕ, ◌+◌, ◌<◌, ◌≤◌, length, get_or, drop, ℤ, sym, refl, ap, ◌∙◌, arith, w32, SFits, to_z, of_z, rules}
+use Rattle.std.proofs.Common.{◌≡◌, ℕ, ◌+◌, ◌<◌, ◌≤◌, length, get_or, drop, ℤ, ap, ◌∙◌, arith, w32, SFits, to_z, of_z, rules}
 use Rattle.std.proofs.lemmas.List.{at_drop_more, at_drop_all}
 use Rattle.std.proofs.lemmas.Int.{to_z-of_z}
-use Rattle.auction.specs.declared.side.Place.{Place}
 use Rattle.auction.specs.Curve.{ahead, tie, place, by_place}
 use Rattle.auction.specs.Offers.{price_of, volume_of, rank_of}
 use Rattle.auction.proofs.Filling.{before_le, tied_le, volume_at}

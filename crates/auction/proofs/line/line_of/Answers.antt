@@ -1,5 +1,5 @@
 use borrow.Author.Differences.{ints}
-use Rattle.std.proofs.Common.{◌≡◌, pos, neg_ℤ, ◌≤ℤ◌, ◌<ℤ◌, sym, inl, inr, arith, rules}
+use Rattle.std.proofs.Common.{sym, arith}
 use Rattle.auction.proofs.Best.{line_there, line_back, line_enough}
 use Rattle.auction.proofs.line.line_of.Goals as goal
 

@@ -1,8 +1,5 @@
-use Rattle.std.proofs.Common.{◌≡◌, ℕ, ◌+◌, ◌-◌, ◌<◌, ◌≤◌, Bool, true, false, cond, List, [], ◌∷◌, ◌++◌, map, length, get_or, take, drop, set, sym, refl, ap, ◌∙◌, arith, rules}
-use Rattle.market.specs.declared.block.Block.{Block}
-use Rattle.market.specs.declared.zone.Zone.TheVariants.{One, Two}
-use Rattle.auction.specs.declared.offer.Offer.{Offer}
-use Rattle.auction.specs.Offers.{second_first, comes_first, rank_of, merged, in_zone, same_zone, part}
+use Rattle.std.proofs.Common.{◌≡◌, ℕ, ◌+◌, ◌<◌, ◌≤◌, map, length, take, drop, sym, ap, ◌∙◌, arith}
+use Rattle.auction.specs.Offers.{rank_of, merged}
 use Rattle.std.proofs.lemmas.List.{append-nil, drop_all}
 use Rattle.auction.proofs.Weaving.{merged_more}
 use Rattle.auction.proofs.merge.merge.Goals as goal

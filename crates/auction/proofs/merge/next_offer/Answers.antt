@@ -1,8 +1,5 @@
-use Rattle.std.proofs.Common.{◌≡◌, ℕ, ◌+◌, ◌-◌, ◌<◌, ◌≤◌, Bool, true, false, cond, List, [], ◌∷◌, ◌++◌, map, length, get_or, take, drop, set, sym, refl, ap, ◌∙◌, arith, rules}
-use Rattle.market.specs.declared.block.Block.{Block}
-use Rattle.market.specs.declared.zone.Zone.TheVariants.{One, Two}
-use Rattle.auction.specs.declared.offer.Offer.{Offer}
-use Rattle.auction.specs.Offers.{second_first, comes_first, rank_of, merged, in_zone, same_zone, part}
+use Rattle.std.proofs.Common.{◌≡◌, ◌+◌, true, false, map, drop, sym, ◌∙◌, arith, rules}
+use Rattle.auction.specs.Offers.{second_first, rank_of}
 use Rattle.auction.proofs.Merging.{merge_second, merge_first}
 use Rattle.auction.proofs.Weaving.{second_left, first_left, read_drop}
 use Rattle.auction.proofs.merge.next_offer.Goals as goal

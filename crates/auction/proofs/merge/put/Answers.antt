@@ -1,8 +1,5 @@
-use Rattle.std.proofs.Common.{◌≡◌, ℕ, ◌+◌, ◌-◌, ◌<◌, ◌≤◌, Bool, true, false, cond, List, [], ◌∷◌, ◌++◌, map, length, get_or, take, drop, set, sym, refl, ap, ◌∙◌, arith, rules}
-use Rattle.market.specs.declared.block.Block.{Block}
-use Rattle.market.specs.declared.zone.Zone.TheVariants.{One, Two}
-use Rattle.auction.specs.declared.offer.Offer.{Offer}
-use Rattle.auction.specs.Offers.{second_first, comes_first, rank_of, merged, in_zone, same_zone, part}
+use Rattle.std.proofs.Common.{◌≡◌, true, false, map, set, sym, refl, ap, ◌∙◌}
+use Rattle.auction.specs.Offers.{same_zone}
 use Rattle.std.proofs.lemmas.List.{map-set}
 use Rattle.auction.proofs.merge.put.Goals as goal
 

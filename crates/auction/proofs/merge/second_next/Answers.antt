@@ -1,8 +1,6 @@
-use Rattle.std.proofs.Common.{◌≡◌, ℕ, ◌+◌, ◌-◌, ◌<◌, ◌≤◌, Bool, true, false, cond, List, [], ◌∷◌, ◌++◌, map, length, get_or, take, drop, set, sym, refl, ap, ◌∙◌, arith, rules}
+use Rattle.std.proofs.Common.{map, drop, sym, ap, ◌∙◌, arith}
 use Rattle.market.specs.declared.block.Block.{Block}
-use Rattle.market.specs.declared.zone.Zone.TheVariants.{One, Two}
-use Rattle.auction.specs.declared.offer.Offer.{Offer}
-use Rattle.auction.specs.Offers.{second_first, comes_first, rank_of, merged, in_zone, same_zone, part}
+use Rattle.auction.specs.Offers.{comes_first, rank_of}
 use Rattle.auction.proofs.Weaving.{ends_first, ends_second, both_left}
 use Rattle.auction.proofs.merge.second_next.Goals as goal
 

@@ -1,9 +1,7 @@
-use Rattle.std.proofs.Common.{◌≡◌, ℕ, ◌+◌, ◌-◌, ◌<◌, ◌≤◌, Bool, true, false, cond, List, [], ◌∷◌, ◌++◌, map, length, get_or, take, drop, set, sym, refl, ap, ◌∙◌, arith, rules}
-use Rattle.market.specs.declared.block.Block.{Block}
+use Rattle.std.proofs.Common.{◌≡◌, ℕ, ◌+◌, ◌<◌, ◌≤◌, true, List, [], ◌∷◌, ◌++◌, map, length, get_or, take, drop, ap, ◌∙◌, arith, rules}
 use Rattle.market.specs.declared.zone.Zone.{Zone}
-use Rattle.market.specs.declared.zone.Zone.TheVariants.{One, Two}
 use Rattle.auction.specs.declared.offer.Offer.{Offer}
-use Rattle.auction.specs.Offers.{second_first, comes_first, rank_of, merged, in_zone, same_zone, part}
+use Rattle.auction.specs.Offers.{same_zone, part}
 use Rattle.std.proofs.lemmas.List.{length-map, length-append, take_all}
 use Rattle.auction.proofs.Sides.{blank}
 use Rattle.auction.proofs.Weaving.{part_more, part_fits, put_more}

@@ -1,5 +1,5 @@
 use borrow.Author.Differences.{ints}
-use Rattle.std.proofs.Common.{◌≡◌, ◌<ℤ◌, sym, arith}
+use Rattle.std.proofs.Common.{sym, arith}
 use Rattle.auction.proofs.Sides.{place_before, place_tied, place_after}
 use Rattle.auction.proofs.side.compared.Goals as goal
 

@@ -1,8 +1,5 @@
 use borrow.Author.Differences.{ints}
-use Rattle.std.proofs.Common.{◌≡◌, ℕ, ◌+◌, ◌<◌, ◌≤◌, cond, length, get_or, drop, sym, refl, ap, ◌∙◌, arith, rules}
-use Rattle.auction.specs.Books.{total}
-use Rattle.auction.specs.Offers.{part, same_zone}
-use Rattle.auction.proofs.Sides.{blank}
+use Rattle.std.proofs.Common.{◌<◌, ◌≤◌, length, arith, rules}
 use Rattle.auction.proofs.Totals.{total_more, total_all}
 use Rattle.auction.proofs.sums.total_in.Goals as goal
 

@@ -1,11 +1,8 @@
-use Rattle.std.proofs.Common.{◌≡◌, ℕ, ◌+◌, ◌≤◌, List, [], ◌∷◌, ◌++◌, map, length, take, drop, ℤ, sym, refl, ap, ◌∙◌, subst, arith, rules}
-use Rattle.std.proofs.lemmas.List.{take_all, length-map}
-use Rattle.market.specs.declared.block.Block.{Block}
-use Rattle.market.specs.declared.zone.Zone.{Zone}
+use Rattle.std.proofs.Common.{◌≡◌, ℕ, ◌+◌, ◌≤◌, List, length, take, sym, ap, ◌∙◌, subst, arith}
+use Rattle.std.proofs.lemmas.List.{take_all}
 use Rattle.auction.specs.declared.offer.Offer.{Offer}
-use Rattle.auction.specs.Bracket.{low_end, high_end}
-use Rattle.auction.specs.Clearing.{Pool, Room, together, zone_pool, cleared}
-use Rattle.auction.specs.Offers.{of_sales, of_purchases, rank_of, merged, alone, part}
+use Rattle.auction.specs.Clearing.{Pool, together, cleared}
+use Rattle.auction.specs.Offers.{of_sales, of_purchases, merged}
 use Rattle.auction.specs.Ready.{Ready}
 use Rattle.auction.specs.Tables.{sale_blocks, purchase_blocks, book}
 use Rattle.auction.proofs.Tables.{sales_ready, purchases_ready, pool_same}

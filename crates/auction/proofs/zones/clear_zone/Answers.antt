@@ -1,13 +1,11 @@
-use Rattle.std.proofs.Common.{◌≡◌, ℕ, ◌+◌, ◌≤◌, List, [], ◌∷◌, ◌++◌, map, length, take, drop, ℤ, sym, refl, ap, ◌∙◌, subst, arith, rules}
-use Rattle.std.proofs.lemmas.List.{take_all, length-map}
-use Rattle.market.specs.declared.block.Block.{Block}
-use Rattle.market.specs.declared.zone.Zone.{Zone}
+use Rattle.std.proofs.Common.{◌≡◌, ℕ, List, length, ℤ, sym, ap, ◌∙◌, subst, arith}
+use Rattle.std.proofs.lemmas.List.{length-map}
 use Rattle.auction.specs.declared.offer.Offer.{Offer}
 use Rattle.auction.specs.Bracket.{low_end, high_end}
-use Rattle.auction.specs.Clearing.{Pool, Room, together, zone_pool, cleared}
-use Rattle.auction.specs.Offers.{of_sales, of_purchases, rank_of, merged, alone, part}
+use Rattle.auction.specs.Clearing.{Pool, Room, zone_pool, cleared}
+use Rattle.auction.specs.Offers.{of_sales, of_purchases, part}
 use Rattle.auction.specs.Ready.{Ready}
-use Rattle.auction.specs.Tables.{sale_blocks, purchase_blocks, book}
+use Rattle.auction.specs.Tables.{book}
 use Rattle.auction.proofs.Merging.{part_alone}
 use Rattle.auction.proofs.Tables.{sales_alone, purchases_alone, pool_same, kept_length, written}
 use Rattle.auction.proofs.zones.clear_zone.Goals as goal

@@ -1,18 +1,9 @@
-use borrow.Author.Differences.{ints}
-use Rattle.std.proofs.Common.{◌≡◌, ℕ, ◌+◌, ◌≤◌, List, [], ◌∷◌, ◌++◌, map, length, take, drop, ℤ, pos, neg_ℤ, sym, refl, ap, ◌∙◌, subst, arith, w32, w64, SFits, to_z, of_z, rules}
+use Rattle.std.proofs.Common.{◌≡◌, ℕ, ℤ, sym, refl, ◌∙◌, subst, arith, w32, w64, SFits, rules}
 use Rattle.std.proofs.lemmas.Int.{to_z-of_z}
-use Rattle.market.specs.declared.block.Block.{Block}
-use Rattle.market.specs.declared.purchase.Purchase.{Purchase}
-use Rattle.market.specs.declared.sale.Sale.{Sale}
-use Rattle.market.specs.declared.zone.Zone.{Zone}
-use Rattle.market.specs.declared.zone.Zone.TheVariants.{One, Two}
-use Rattle.auction.specs.declared.line.Line.{Line}
-use Rattle.auction.specs.declared.line.Line.TheVariants.{Enough, There, Back}
-use Rattle.auction.specs.Best.{BookSound, ClearedWell, Prices}
-use Rattle.auction.specs.Books.{Book, surplus, Schedule}
-use Rattle.auction.specs.Clearing.{Room, book_of, cleared, clearing, exporting, importing, price_in, together, zone_pool}
-use Rattle.auction.specs.Steps.{Clears, CommonFound}
-use Rattle.auction.specs.Tables.{TablesSound, WorthWithinLimits, sale_blocks, purchase_blocks, book}
+use Rattle.auction.specs.Best.{ClearedWell, Prices}
+use Rattle.auction.specs.Books.{Book, surplus}
+use Rattle.auction.specs.Clearing.{clearing}
+use Rattle.auction.specs.Tables.{WorthWithinLimits, book}
 use Rattle.rules.specs.Shares.{Shares}
 use Rattle.auction.proofs.Best.{clearing_is_best}
 use Rattle.auction.proofs.Tables.{book_sound, tables_worth}

@@ -1,13 +1,9 @@
-use Rattle.std.proofs.Common.{◌≡◌, ℕ, ◌+◌, ◌≤◌, List, [], ◌∷◌, ◌++◌, map, length, take, drop, ℤ, sym, refl, ap, ◌∙◌, subst, arith, rules}
-use Rattle.std.proofs.lemmas.List.{take_all, length-map}
-use Rattle.market.specs.declared.block.Block.{Block}
-use Rattle.market.specs.declared.zone.Zone.{Zone}
+use Rattle.std.proofs.Common.{ℕ, arith, rules}
+use Rattle.std.proofs.lemmas.List.{length-map}
 use Rattle.market.specs.declared.zone.Zone.TheVariants.{One, Two}
-use Rattle.auction.specs.declared.offer.Offer.{Offer}
-use Rattle.auction.specs.Bracket.{low_end, high_end}
-use Rattle.auction.specs.Clearing.{Pool, Room, together, zone_pool, cleared}
-use Rattle.auction.specs.Offers.{of_sales, of_purchases, rank_of, merged, alone, part}
-use Rattle.auction.specs.Tables.{sale_blocks, purchase_blocks, book}
+use Rattle.auction.specs.Clearing.{together}
+use Rattle.auction.specs.Offers.{of_sales, of_purchases}
+use Rattle.auction.specs.Tables.{book}
 use Rattle.auction.proofs.Merging.{part_one, part_two}
 use Rattle.auction.proofs.Steps.{book_parts, sales_fit, purchases_fit, sales_written, purchases_written}
 use Rattle.auction.proofs.engine.Engine.clear_common.Goals as goal
