@@ -1,5 +1,5 @@
 // The high end of the bracket as a price rule, so that both ends can be shown.
-ghost use Rattle.std.specs.Prelude.{if_then_else_, int_lt};
+ghost use Rattle.std.specs.Prelude.{int_lt, if◌then◌else◌};
 ghost use Rattle.std.proofs.Common.{rules};
 
 use rules::price::PriceRule;

@@ -25,12 +25,12 @@ use Rattle.settlement.specs.Postings.{income_of, residue_of}
 use Rattle.settlement.specs.declared.entry.Entry.{Entry}
 use Rattle.settlement.specs.declared.settle.Settled.{Settled}
 use Rattle.session.specs.Causes.{admit_causes, enter_causes, settle_causes, withdraw_causes}
-use Rattle.session.specs.Outcomes.{Four, Reports, blocks_at, four, held_for, outcome_at, scheduled}
-use Rattle.session.specs.Tables.{Blocks, Counted, Places, as_purchases, as_sales, blocks_in, lent, places, rows_of, zone_at}
+use Rattle.session.specs.Outcomes.{Four, Reports, blocks_at, held_for, outcome_at, scheduled}
+use Rattle.session.specs.Tables.{Blocks, Counted, Places, blocks_in, lent, places, rows_of, zone_at}
 use Rattle.session.specs.declared.ledger.Ledger.{Ledger}
 use Rattle.session.specs.declared.session.Session.{Session}
 use Rattle.exchange.specs.After.{After, AfterClosed, Holding, Matched, outcome_by}
-use Rattle.exchange.specs.Applying.{ComesTo, accepting, four_in, reporting, settled_idle, settling, with_accounts, with_blocks}
+use Rattle.exchange.specs.Applying.{ComesTo, accepting, four_in, reporting, settled_idle, settling, with_accounts}
 use Rattle.exchange.specs.Calls.{ClearsFrom, ClearedFrom, Enters, IdleAdmits, Moves, OpenAdmits, SettlesFrom, Withdraws, reason}
 use Rattle.exchange.specs.History.{History, accepted, begun, event, refused, standing_book}
 use Rattle.exchange.specs.Runs.{LawfulAfter, ResultStep, Step}

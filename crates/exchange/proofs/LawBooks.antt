@@ -1,5 +1,5 @@
 -- Sound standing blocks are sound books, so that what the definitions make of them is cleared well.
-use Rattle.std.proofs.Common.{◌≡◌, ℕ, ◌≤◌, true, List, [], ◌∷◌, map, length, ℤ, ◌≤ℤ◌, sym, refl, ap, ◌∙◌}
+use Rattle.std.proofs.Common.{◌≡◌, ℕ, true, List, [], ◌∷◌, map, ℤ, ◌≤ℤ◌, refl, ap, ◌∙◌}
 use Rattle.std.proofs.ByRecursion.{All-map, All-weaker}
 use Rattle.market.specs.declared.block.Block.{Block}
 use Rattle.market.specs.declared.purchase.Purchase.{Purchase}

@@ -1,14 +1,12 @@
 -- The step of each call, from what the call promises of its answer and of what it leaves.
-use Rattle.std.proofs.Common.{◌≡◌, ℕ, List, ◌∷◌, ◌++◌, map, length, drop, ℤ, Some, None, Ok, Option, sym, refl, ap, ◌∙◌, subst}
-use Rattle.std.proofs.lemmas.List.{length-map, length-take-le}
+use Rattle.std.proofs.Common.{◌≡◌, ℕ, ◌∷◌, ℤ, Some, None, Ok, Option, refl, ap, ◌∙◌}
 use Rattle.market.specs.Limits.{BidWithinLimits}
 use Rattle.market.specs.Precedence.{key_of}
 use Rattle.market.specs.Refusals.{FirstCause}
 use Rattle.market.specs.declared.account.Account.{Account}
 use Rattle.market.specs.declared.block.Bid.{Bid}
-use Rattle.market.specs.declared.block.Block.{Block}
 use Rattle.market.specs.declared.block.BlockKey.{BlockKey}
-use Rattle.market.specs.declared.call.Call.TheVariants.{Admit, Begin, Enter, Withdraw}
+use Rattle.market.specs.declared.call.Call.TheVariants.{Admit, Enter, Withdraw}
 use Rattle.market.specs.declared.zone.Side.{Side}
 use Rattle.market.specs.declared.zone.Side.TheVariants.{Sale, Purchase}
 use Rattle.market.specs.declared.zone.Zone.{Zone}
@@ -17,7 +15,7 @@ use Rattle.auction.specs.declared.engine.Engine.{Engine}
 use Rattle.exchange.specs.After.{AfterIdle, AfterOpen}
 use Rattle.session.specs.Outcomes.{Four}
 use Rattle.exchange.specs.Applying.{four_in}
-use Rattle.exchange.specs.Calls.{BegunFrom, ChangedBlocks, IdleAdmits, OpenAdmits}
+use Rattle.exchange.specs.Calls.{ChangedBlocks, IdleAdmits, OpenAdmits}
 use Rattle.session.specs.Causes.{admit_causes, enter_causes, side_enter_causes, side_withdraw_causes, withdraw_causes}
 use Rattle.exchange.specs.History.{History, accepted}
 use Rattle.session.specs.Tables.{Blocks, Counted, Places, ZoneTables, blocks_in, entered_in, in_zone, lent, purchase_kind, purchase_row, sale_kind, sale_row, withdrawn_in, zone_at}

@@ -1,5 +1,5 @@
 -- What is after a history is, with an accepted or a refused call more, after the history with that event.
-use Rattle.std.proofs.Common.{◌≡◌, ℕ, List, [], ◌∷◌, ◌++◌, length, drop, ℤ, ◌+ℤ◌, Some, sym, refl, ap, ◌∙◌, subst, subst₂}
+use Rattle.std.proofs.Common.{◌≡◌, ℕ, List, ◌∷◌, ◌++◌, length, drop, ℤ, ◌+ℤ◌, Some, sym, refl, ap, ◌∙◌, subst, subst₂}
 use Rattle.std.specs.List.{AllByRecursion as All}
 use Rattle.std.proofs.lemmas.List.{length-map, length-take-le}
 use Rattle.rules.specs.Shares.{Shares}
@@ -16,7 +16,7 @@ use Rattle.market.specs.declared.account.Account.{Account}
 use Rattle.market.specs.declared.block.Bid.{Bid}
 use Rattle.market.specs.declared.block.BlockKey.{BlockKey}
 use Rattle.market.specs.declared.call.Call.{Call}
-use Rattle.market.specs.declared.call.Call.TheVariants.{Admit, Begin, Enter, Withdraw, Close, Clear, Settle, Annul}
+use Rattle.market.specs.declared.call.Call.TheVariants.{Admit, Enter, Withdraw, Close, Clear, Settle}
 use Rattle.market.specs.declared.purchase.Purchase as purchase
 use Rattle.market.specs.declared.refusal.Refusal.{Refusal}
 use Rattle.market.specs.declared.sale.Sale as sale
@@ -44,7 +44,7 @@ use Rattle.exchange.proofs.LawBlocks.{BlocksAfter, Roomy, StandsOn, blocks_enter
 use Rattle.exchange.proofs.LawBooks.{outcome_well}
 use Rattle.exchange.proofs.LawLedger.{ledger_admitted, ledger_kept, ledger_settled}
 use Rattle.exchange.proofs.LawSettle.{held_session, held_to_settle, well_balanced}
-use Rattle.exchange.proofs.LawTables.{holding_none, holding_over, sound_none}
+use Rattle.exchange.proofs.LawTables.{holding_over}
 
 -- ---- a history k in which the session stands as in h
 pub record SameSession (h k : History) : Type 0 where

@@ -11,7 +11,7 @@ use Rattle.auction.specs.Clearing.{Outcome}
 use Rattle.settlement.specs.Entries.{entries_of}
 use Rattle.settlement.specs.Postings.{residue_of, total}
 use Rattle.session.specs.Outcomes.{Reports}
-use Rattle.exchange.specs.History.{Carried, History, Phase, accepted, begun, carried, cleared', closed, idle, open', outcome, phase, refused, standing_purchases, standing_sales, to_settle}
+use Rattle.exchange.specs.History.{Carried, History, accepted, begun, carried, cleared', closed, idle, open', outcome, phase, refused, standing_purchases, standing_sales, to_settle}
 use Rattle.session.specs.Tables.{Blocks, Counted, Kind, Places, ZoneTables, account_kind, as_purchases, as_sales, blocks_in, lent, purchase_kind, rows_of, sale_kind}
 use Rattle.auction.specs.declared.engine.Engine.{Engine}
 use Rattle.exchange.specs.declared.exchange.Exchange.{Exchange}

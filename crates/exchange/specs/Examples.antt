@@ -1,9 +1,9 @@
 -- Small histories, by computation from the definitions.
-use Rattle.std.specs.Prelude.{◌≡◌, ℕ, min, true, false, [], ◌∷◌, length, pos, refl}
+use Rattle.std.specs.Prelude.{◌≡◌, ℕ, true, false, [], ◌∷◌, length, pos, refl}
 use Rattle.market.specs.declared.block.Bid.{Bid}
-use Rattle.market.specs.declared.call.Call.TheVariants.{Admit, Begin, Enter, Withdraw, Clear, Close, Settle}
+use Rattle.market.specs.declared.call.Call.TheVariants.{Admit, Begin, Enter, Withdraw, Close}
 use Rattle.market.specs.declared.refusal.Refusal.TheVariants.{TableFull}
-use Rattle.market.specs.declared.zone.Side.TheVariants.{Sale, Purchase}
+use Rattle.market.specs.declared.zone.Side.TheVariants.{Sale}
 use Rattle.market.specs.declared.zone.Zone.TheVariants.{One, Two}
 use Rattle.exchange.specs.History.{History, accepted, begun, closed, phase, refused, standing_purchases, standing_sales}
 use Rattle.exchange.specs.Law.{admitted}

@@ -10,7 +10,7 @@ use Rattle.auction.specs.Clearing.{Outcome}
 use Rattle.auction.specs.Tables.{book}
 use Rattle.exchange.specs.After.{AddsToZero, ResiduesSmall, carried_by, outcome_by}
 use Rattle.exchange.specs.History.{History, accepted, begun, refused, standing_book}
-use Rattle.session.specs.Tables.{Blocks, Places, ZoneTables, blocks_in, lent, rows_of}
+use Rattle.session.specs.Tables.{Blocks, Places, blocks_in, lent, rows_of}
 use Rattle.auction.specs.declared.engine.Engine.{Engine}
 use Rattle.exchange.specs.declared.exchange.Exchange.{Exchange}
 use Rattle.exchange.specs.declared.exchange.Exchange.TheVariants as exchange

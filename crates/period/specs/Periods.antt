@@ -1,16 +1,14 @@
 -- Clearing the ladders of a period: what it is refused for, and what it leaves in them.
 -- To believe: the causes in their order; and that counted blocks get what the clearing gives them, and all else stays.
-use Rattle.std.specs.Prelude.{◌≡◌, ℕ, ◌<◌, ◌≤◌, ◌⊎◌, List, [], ◌∷◌, length, drop, ℤ, Ok, Err, Result}
+use Rattle.std.specs.Prelude.{◌≡◌, ℕ, ◌≤◌, List, [], ◌∷◌, drop, ℤ, Ok, Err, Result}
 use Rattle.table.specs.Edits.{Fitting}
 use Rattle.table.specs.Rows.{Sound}
 use Rattle.table.specs.declared.table.Table.{Table}
 use Rattle.market.specs.Limits.{BlockWithinLimits}
 use Rattle.market.specs.Precedence.{purchase_order, sale_order}
 use Rattle.market.specs.Refusals.{Cause}
-use Rattle.market.specs.declared.purchase.Purchase.{Purchase}
 use Rattle.market.specs.declared.refusal.Refusal.{Refusal}
 use Rattle.market.specs.declared.refusal.Refusal.TheVariants.{TableSize, TableDisturbed, CapacityLimit}
-use Rattle.market.specs.declared.sale.Sale.{Sale}
 use Rattle.auction.specs.Best.{ClearedWell}
 use Rattle.auction.specs.Books.{Book, surplus}
 use Rattle.auction.specs.Clearing.{clearing}

@@ -1,11 +1,10 @@
 -- What a clearing writes into the tables.
-use Rattle.std.proofs.Common.{◌≡◌, ℕ, ◌^◌, ◌<◌, ◌≤◌, List, [], ◌∷◌, ◌++◌, take, drop, ℤ, pos, negsuc, neg_ℤ, ◌≤ℤ◌, sym, refl, ap, ◌∙◌, subst, arith, w32, SFits}
+use Rattle.std.proofs.Common.{◌≡◌, ℕ, ◌^◌, ◌<◌, ◌≤◌, List, [], ◌∷◌, ◌++◌, drop, ℤ, pos, negsuc, neg_ℤ, ◌≤ℤ◌, sym, refl, ap, ◌∙◌, subst, arith, w32, SFits}
 use lib.Signed.{mag}
 use Rattle.std.proofs.lemmas.Int.{ints}
 use Rattle.auction.specs.Best.{ClearedWell}
 use Rattle.auction.specs.Books.{Book, flow}
-use Rattle.auction.specs.Clearing.{Outcome, clearing}
-use Rattle.auction.specs.Steps.{Clears}
+use Rattle.auction.specs.Clearing.{Outcome}
 use Rattle.auction.specs.Tables.{book, purchase_blocks, sale_blocks}
 use Rattle.market.specs.declared.purchase.Purchase.{Purchase}
 use Rattle.market.specs.declared.sale.Sale.{Sale}

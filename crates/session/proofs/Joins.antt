@@ -5,7 +5,6 @@ use Rattle.market.specs.Entering.{bid_causes}
 use Rattle.market.specs.Refusals.{Cause, FirstCause}
 use Rattle.market.specs.declared.account.Account.{Account}
 use Rattle.market.specs.declared.block.Bid.{Bid}
-use Rattle.market.specs.declared.block.BlockKey.{BlockKey}
 use Rattle.market.specs.declared.purchase.Purchase as purchase
 use Rattle.market.specs.declared.refusal.Refusal.{Refusal}
 use Rattle.market.specs.declared.sale.Sale as sale
@@ -16,7 +15,7 @@ use Rattle.market.specs.declared.zone.Zone.TheVariants.{One, Two}
 use Rattle.session.specs.Outcomes.{four}
 use Rattle.session.specs.Causes.{owned_causes, row_enter_causes, standing_causes}
 use Rattle.session.specs.Changes.{Becomes, Leaves, SessionBecomes, ZoneBecomes}
-use Rattle.session.specs.Tables.{Counted, Kind, ZoneTables, blocks_of, in_zone, kind, lent, put_in, zone_tables}
+use Rattle.session.specs.Tables.{Counted, Kind, ZoneTables, blocks_of, in_zone, lent, put_in, zone_tables}
 use Rattle.session.specs.declared.session.Session.{Session}
 use Rattle.session.specs.declared.session.ZoneCounts.{ZoneCounts}
 

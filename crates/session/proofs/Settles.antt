@@ -1,11 +1,10 @@
 -- What a settlement makes of the accounts, of which only the counted ones are posted to.
-use Rattle.std.proofs.Common.{◌≡◌, ℕ, List, ◌++◌, take, drop, ℤ, pos, Ok, Err, Result, ap, ◌∙◌, subst, subst₂, take-append-drop}
+use Rattle.std.proofs.Common.{◌≡◌, List, ◌++◌, take, drop, ℤ, pos, Ok, Err, Result, ap, ◌∙◌, subst, subst₂, take-append-drop}
 use Rattle.market.proofs.Causes.{first_accepts}
 use Rattle.market.specs.Refusals.{FirstCause}
 use Rattle.market.specs.declared.account.Account.{Account}
 use Rattle.market.specs.declared.refusal.Refusal.{Refusal}
 use Rattle.settlement.specs.Entries.{Outcome}
-use Rattle.settlement.specs.Postings.{accounts_after}
 use Rattle.settlement.specs.Settling.{Settlement, Settles, settle_causes as posting_causes}
 use Rattle.settlement.specs.declared.entry.Entry.{Entry}
 use Rattle.settlement.specs.declared.settle.Settled.{Settled}

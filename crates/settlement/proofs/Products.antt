@@ -1,5 +1,5 @@
 -- Products of signed numbers, and the size of a rounded amount.
-use Rattle.std.proofs.Common.{suc, ◌*◌, ◌^◌, ◌<◌, ◌≤◌, ℤ, pos, negsuc, ◌*ℤ◌, nat_abs, mul-le-mul_right, arith, w32, SFits}
+use Rattle.std.proofs.Common.{suc, ◌^◌, ◌<◌, ◌≤◌, ℤ, pos, negsuc, ◌*ℤ◌, nat_abs, mul-le-mul_right, arith, w32, SFits}
 use Rattle.std.proofs.lemmas.Int.{ints}
 use Rattle.settlement.specs.Rounding.{nearest_cent}
 use Rattle.settlement.proofs.Roundings.{rounds}

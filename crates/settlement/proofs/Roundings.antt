@@ -1,5 +1,5 @@
 -- Rounding keeps its law.
-use Rattle.std.proofs.Common.{◌≡◌, zero, suc, ◌+◌, ◌<◌, ◌≤◌, ℤ, pos, negsuc, ◌+ℤ◌, ◌-ℤ◌, neg_ℤ, ◌≤ℤ◌, ◌<ℤ◌, refl, arith}
+use Rattle.std.proofs.Common.{◌≡◌, zero, suc, ◌≤◌, ℤ, pos, negsuc, ◌+ℤ◌, ◌-ℤ◌, neg_ℤ, ◌≤ℤ◌, ◌<ℤ◌, refl, arith}
 use lib.Signed.{quot_z, rem_z}
 use Rattle.std.proofs.lemmas.Int.{ints}
 use Rattle.settlement.specs.Rounding.{Rounds, away, nearest_cent}

@@ -1,6 +1,6 @@
 -- Matched volumes that balance with the flow, and what follows: a settlement adds up to zero.
 -- To believe: `Balanced`. The rest is proved.
-use Rattle.std.specs.Prelude.{◌≡◌, ℕ, ◌*◌, ◌≤◌, List, length, ℤ, pos, ◌+ℤ◌, ◌*ℤ◌, sum_by, unsigned_abs}
+use Rattle.std.specs.Prelude.{◌≡◌, ℕ, ◌*◌, ◌≤◌, List, length, pos, ◌+ℤ◌, ◌*ℤ◌, sum_by, unsigned_abs}
 use Rattle.market.specs.Precedence.{account_order}
 use Rattle.market.specs.declared.account.Account.{Account}
 use Rattle.table.specs.Rows.{Apart}

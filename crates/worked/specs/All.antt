@@ -1,5 +1,5 @@
 -- All worked results that need no call file. To believe: that each is what the market's rules give (docs/WORKED.md).
-use Rattle.std.specs.Prelude.{◌≡◌, ℤ, pos, neg_ℤ}
+use Rattle.std.specs.Prelude.{◌≡◌, pos, neg_ℤ}
 use Rattle.auction.specs.Worked.{WorkedResults}
 use Rattle.rules.specs.Prices.{midpoint}
 use Rattle.settlement.specs.Rounding.{nearest_cent}

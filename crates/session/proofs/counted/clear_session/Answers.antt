@@ -1,5 +1,4 @@
 use Rattle.std.proofs.Common.{◌≡◌}
-use Rattle.market.proofs.Causes.{first_refuses}
 use Rattle.session.specs.Outcomes.{Four, four}
 use Rattle.session.specs.Causes.{clear_causes}
 use Rattle.session.specs.Tables.{blocks_of}

@@ -1,5 +1,5 @@
-use Rattle.std.proofs.Common.{ℕ, List, ◌++◌, ◌∙◌, rules}
-use Rattle.market.proofs.Causes.{first_accepts, first_refuses}
+use Rattle.std.proofs.Common.{ℕ, List, ◌++◌, rules}
+use Rattle.market.proofs.Causes.{first_refuses}
 use Rattle.market.specs.Entering.{bid_causes}
 use Rattle.market.specs.Refusals.{Cause}
 use Rattle.session.specs.Causes.{owned_causes, standing_causes}

@@ -1,7 +1,7 @@
 use Rattle.std.proofs.Common.{Ok, Err, rules}
 use Rattle.session.specs.Causes.{withdraw_causes}
-use Rattle.session.specs.Tables.{blocks_of, withdrawn_in, lent, zone_at}
-use Rattle.session.proofs.Joins.{in_none, in_one, in_two}
+use Rattle.session.specs.Tables.{blocks_of, withdrawn_in, zone_at}
+use Rattle.session.proofs.Joins.{in_one, in_two}
 use Rattle.session.proofs.session.Session.withdraw.Goals as goal
 
 pub returns-in-Ok : goal.returns-in-Ok
