@@ -2,7 +2,7 @@
 use Rattle.std.proofs.Common.{◌≡◌, ℕ, zero, suc, ◌+◌, ◌≤◌, true, false, ◌⊎◌, List, [], ◌∷◌, length, ℤ, pos, negsuc, ◌-ℤ◌, ◌*ℤ◌, neg_ℤ, ◌≤ℤ◌, ◌<ℤ◌, sym, refl, ◌∙◌, inl, inr, arith}
 use borrow.Author.Differences.{ints}
 use lib.Signed.{le_z}
-use Rattle.std.specs.List.{AllByRecursion as All}
+use Rattle.std.specs.List.{AllByRecursion}
 use Rattle.std.proofs.lemmas.Int.{by_lt_z}
 use Rattle.market.specs.declared.block.Block.{Block}
 use Rattle.market.specs.declared.zone.Zone.{Zone}
@@ -134,7 +134,7 @@ module _ (g : ℕ → ℕ → ℕ → ℕ) (shares : Shares g) where
         let e = zones_kept g z (exporting z k b) (all_alone (λ w _. w ≡ z) z b.sales (zones_are z b.sales)) (all_alone (λ w _. w ≡ z) z b.purchases (zones_are z b.purchases)) in
         out (total (part z (cleared g (exporting z k b)).sales)) (total (part z (cleared g (exporting z k b)).purchases)) _ _ (matched_amount (exporting z k b)) e.0 e.1 h.sold.sums h.bought.sums
       where
-        zones_are : (w : Zone) (bs : List Block) → All (λ _. w ≡ w) bs
+        zones_are : (w : Zone) (bs : List Block) → AllByRecursion (λ _. w ≡ w) bs
         zones_are w [] = tt
         zones_are w (c ∷ cs) = (refl, zones_are w cs)
 
@@ -147,7 +147,7 @@ module _ (g : ℕ → ℕ → ℕ → ℕ) (shares : Shares g) where
         let e = zones_kept g z (importing z k b) (all_alone (λ w _. w ≡ z) z b.sales (zones_are z b.sales)) (all_alone (λ w _. w ≡ z) z b.purchases (zones_are z b.purchases)) in
         into (total (part z (cleared g (importing z k b)).sales)) (total (part z (cleared g (importing z k b)).purchases)) _ _ (matched_amount (importing z k b)) e.0 e.1 h.sold.sums h.bought.sums
       where
-        zones_are : (w : Zone) (bs : List Block) → All (λ _. w ≡ w) bs
+        zones_are : (w : Zone) (bs : List Block) → AllByRecursion (λ _. w ≡ w) bs
         zones_are w [] = tt
         zones_are w (c ∷ cs) = (refl, zones_are w cs)
 

@@ -1,7 +1,7 @@
 -- A zone that exports more has no lower price.
 use Rattle.std.proofs.Common.{ℕ, ◌<◌, ◌≤◌, List, [], ◌∷◌, ℤ, ◌≤ℤ◌, ◌<ℤ◌, inl, inr, arith}
 use borrow.Author.Differences.{ints}
-use Rattle.std.specs.List.{AllByRecursion as All}
+use Rattle.std.specs.List.{AllByRecursion}
 use Rattle.std.proofs.lemmas.Bool.{cases_lt}
 use Rattle.std.proofs.lemmas.Int.{by_lt_z}
 use Rattle.market.specs.declared.block.Block.{Block}
@@ -17,14 +17,14 @@ less_bought : (p q P : ℤ) (x y V : ℕ) → q <ℤ p → (0 < x → p ≤ℤ P
 less_bought p q P x y V h earns short l =
     elim (cases_lt y x) [ inl k ↦ let a = short (omega arith) in let b = earns (omega arith) in absurd (omega (arith, ints)) | inr k ↦ k ]
 
-sales_more : (p q : ℤ) (bs cs : List Block) → q <ℤ p → SameBids bs cs → All (SaleFair p) bs → All (SaleFair q) cs → Within cs → total cs ≤ total bs
+sales_more : (p q : ℤ) (bs cs : List Block) → q <ℤ p → SameBids bs cs → AllByRecursion (SaleFair p) bs → AllByRecursion (SaleFair q) cs → Within cs → total cs ≤ total bs
 sales_more p q [] [] h same f g w = omega arith
 sales_more p q [] (c ∷ cs) h same f g w = same_none c cs same
 sales_more p q (b ∷ bs) [] h same f g w = same_some b bs same
 sales_more p q (b ∷ bs) (c ∷ cs) h same (f, fs) (g, gs) (w, ws) =
     omega (arith, sales_more p q bs cs h (same_rest b c bs cs same) fs gs ws, more_sold p q c.bid.price b.matched c.matched c.bid.volume h (rw (← same_first b c bs cs same) f.none_short) g.no_loss w)
 
-purchases_less : (p q : ℤ) (bs cs : List Block) → q <ℤ p → SameBids bs cs → All (PurchaseFair p) bs → All (PurchaseFair q) cs → Within bs → total bs ≤ total cs
+purchases_less : (p q : ℤ) (bs cs : List Block) → q <ℤ p → SameBids bs cs → AllByRecursion (PurchaseFair p) bs → AllByRecursion (PurchaseFair q) cs → Within bs → total bs ≤ total cs
 purchases_less p q [] [] h same f g w = omega arith
 purchases_less p q [] (c ∷ cs) h same f g w = same_none c cs same
 purchases_less p q (b ∷ bs) [] h same f g w = same_some b bs same

@@ -1,7 +1,7 @@
 -- A walk along two curves, offer by offer.
 use Rattle.std.proofs.Common.{◌≡◌, ℕ, suc, ◌+◌, ◌-◌, ◌*◌, ◌<◌, ◌≤◌, ◌⊎◌, List, [], ◌∷◌, ◌++◌, length, get_or, drop, replicate, ℤ, pos, ◌≤ℤ◌, ◌<ℤ◌, sym, refl, ap, ◌∙◌, inl, inr, arith}
 use borrow.Author.Differences.{ints}
-use Rattle.std.specs.List.{AllByRecursion as All}
+use Rattle.std.specs.List.{AllByRecursion}
 use Rattle.std.proofs.lemmas.List.{drop_more, drop-drop, drop-append-le, drop-replicate, get_or-drop, get_or_append_left, get_or-replicate, length-replicate, length-append, length-drop}
 use Rattle.std.proofs.ByRecursion.{All-weaker}
 use Rattle.std.proofs.lemmas.Bool.{cases_lt}
@@ -95,11 +95,11 @@ pub record Walked (k : ℕ) (o : ℤ) (ss : List Offer) (l : ℕ) (p : ℤ) (ps 
   pub reached : (q ≡ 0) ⊎ (Meet (behind k o ss) (behind l p ps) q × (nth_price (behind k o ss) q ≡ u) × (nth_price (behind l p ps) q ≡ v))
 
 -- the curves of a side are short enough to count
-curve_short : (os : List Offer) → All (λ x. VolumeWithinLimits (volume_of x)) os → length (curve os) ≤ 100000 * length os
+curve_short : (os : List Offer) → AllByRecursion (λ x. VolumeWithinLimits (volume_of x)) os → length (curve os) ≤ 100000 * length os
 curve_short [] h = omega arith
 curve_short (x ∷ os) (h, hs) = omega (arith, bid_cons x os, curve_short os hs)
 
-pub behind_short : (k : ℕ) (p : ℤ) (os : List Offer) → k ≤ 30000000 → All (λ x. VolumeWithinLimits (volume_of x)) os → length os ≤ 512 → length (behind k p os) ≤ 81200000
+pub behind_short : (k : ℕ) (p : ℤ) (os : List Offer) → k ≤ 30000000 → AllByRecursion (λ x. VolumeWithinLimits (volume_of x)) os → length os ≤ 512 → length (behind k p os) ≤ 81200000
 behind_short k p os h hs l = omega (arith, bid_cons (tenths k p) os, curve_short os hs)
 
 -- s more tenths, which meet, after which the cursors take up the next offers

@@ -1,7 +1,7 @@
 -- Weak duality: a schedule that prices support has the greatest surplus.
 use Rattle.std.proofs.Common.{◌≡◌, ℕ, ◌+◌, ◌-◌, ◌<◌, ◌≤◌, ◌⊎◌, List, [], ◌∷◌, ℤ, pos, ◌+ℤ◌, ◌-ℤ◌, ◌*ℤ◌, neg_ℤ, ◌≤ℤ◌, ◌<ℤ◌, sym, ap, ◌∙◌, inl, inr, mul-le-mul_right, arith}
 use borrow.Author.Differences.{ints, up, down}
-use Rattle.std.specs.List.{AllByRecursion as All}
+use Rattle.std.specs.List.{AllByRecursion}
 use Rattle.std.proofs.lemmas.Bool.{cases_order}
 use Rattle.market.specs.declared.block.Block.{Block}
 use Rattle.auction.specs.Books.{total, money, Within, SameBids, SaleFair, PurchaseFair, Book, gain, BookWithin, BookSame, Supports, Schedule, Feasible, flow, surplus}
@@ -55,7 +55,7 @@ step : (p u v m n : ℤ) (x y s t : ℕ) → (v +ℤ p *ℤ pos x) ≤ℤ (u +�
 step p u v m n x y s t h k = omega (arith, ints)
 
 -- a zone's sales, and its purchases
-pub sales_best : (p : ℤ) (bs cs : List Block) → SameBids bs cs → All (SaleFair p) bs → Within cs → (money bs +ℤ p *ℤ pos (total cs)) ≤ℤ (money cs +ℤ p *ℤ pos (total bs))
+pub sales_best : (p : ℤ) (bs cs : List Block) → SameBids bs cs → AllByRecursion (SaleFair p) bs → Within cs → (money bs +ℤ p *ℤ pos (total cs)) ≤ℤ (money cs +ℤ p *ℤ pos (total bs))
 sales_best p [] [] same fair within = omega (arith, ints)
 sales_best p [] (c ∷ cs) same fair within = same_none c cs same
 sales_best p (b ∷ bs) [] same fair within = same_some b bs same
@@ -64,7 +64,7 @@ sales_best p (b ∷ bs) (c ∷ cs) same (f, fair) (w, within) =
     let w' = rw (← e) at w in
     rw (← e) (step p _ _ _ _ _ _ _ _ (sale_best p b.bid.price b.matched c.matched b.bid.volume f.no_loss f.none_short w') (sales_best p bs cs (same_rest b c bs cs same) fair within))
 
-pub purchases_best : (p : ℤ) (bs cs : List Block) → SameBids bs cs → All (PurchaseFair p) bs → Within cs → (money cs +ℤ p *ℤ pos (total bs)) ≤ℤ (money bs +ℤ p *ℤ pos (total cs))
+pub purchases_best : (p : ℤ) (bs cs : List Block) → SameBids bs cs → AllByRecursion (PurchaseFair p) bs → Within cs → (money cs +ℤ p *ℤ pos (total bs)) ≤ℤ (money bs +ℤ p *ℤ pos (total cs))
 purchases_best p [] [] same fair within = omega (arith, ints)
 purchases_best p [] (c ∷ cs) same fair within = same_none c cs same
 purchases_best p (b ∷ bs) [] same fair within = same_some b bs same

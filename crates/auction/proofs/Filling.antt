@@ -1,6 +1,6 @@
 -- Loops over the offers of a side, and over those that they fill in place.
 use Rattle.std.proofs.Common.{◌≡◌, ℕ, zero, suc, ◌+◌, ◌-◌, ◌<◌, ◌≤◌, List, ◌∷◌, ◌++◌, length, get_or, take, drop, set, ℤ, sym, refl, ap, ◌∙◌, inl, inr, arith}
-use Rattle.std.specs.List.{AllByRecursion as All}
+use Rattle.std.specs.List.{AllByRecursion}
 use Rattle.std.proofs.ByRecursion.{All-get_or}
 use Rattle.std.proofs.lemmas.List.{append_assoc, take_more_set, drop-set-lt, drop_more}
 use Rattle.market.specs.Limits.{VolumeWithinLimits}
@@ -21,7 +21,7 @@ tied_le v Before = omega arith
 tied_le v Tied = omega arith
 tied_le v After = omega arith
 
-pub volume_at : (os : List Offer) (i : ℕ) → i < length os → All (λ o. VolumeWithinLimits (volume_of o)) os → volume_of (get_or os i blank) ≤ 100000
+pub volume_at : (os : List Offer) (i : ℕ) → i < length os → AllByRecursion (λ o. VolumeWithinLimits (volume_of o)) os → volume_of (get_or os i blank) ≤ 100000
 volume_at os i h k = (All-get_or (λ o. VolumeWithinLimits (volume_of o)) os i blank h k).1
 
 module _ (g : ℕ → ℕ → ℕ → ℕ) (rank : ℤ → ℤ) (m : ℤ) (l s c i : ℕ) (os : List Offer) (h : i < length os) where

@@ -1,6 +1,6 @@
 -- A pool of one zone's blocks stays one.
 use Rattle.std.proofs.Common.{◌≡◌, ℕ}
-use Rattle.std.specs.List.{AllByRecursion as All}
+use Rattle.std.specs.List.{AllByRecursion}
 use Rattle.market.specs.declared.zone.Zone.{Zone}
 use Rattle.auction.specs.Offers.{of_sales, of_purchases, part}
 use Rattle.auction.specs.Books.{total}
@@ -9,7 +9,7 @@ use Rattle.auction.specs.Clearing.{Pool, matched_amount, cleared}
 use Rattle.auction.proofs.Matching.{sum_of, match_all}
 use Rattle.auction.proofs.Merging.{sum_own}
 
-pub zones_kept : (g : ℕ → ℕ → ℕ → ℕ) (z : Zone) (x : Pool) → All (λ o. o.zone ≡ z) x.sales → All (λ o. o.zone ≡ z) x.purchases →
+pub zones_kept : (g : ℕ → ℕ → ℕ → ℕ) (z : Zone) (x : Pool) → AllByRecursion (λ o. o.zone ≡ z) x.sales → AllByRecursion (λ o. o.zone ≡ z) x.purchases →
     (total (part z (cleared g x).sales) ≡ sum_of (cleared g x).sales) × (total (part z (cleared g x).purchases) ≡ sum_of (cleared g x).purchases)
 unfolding cleared
 zones_kept g z x h k = (

@@ -1,7 +1,7 @@
 -- What is matched lies up to the last tenth matched, and what is left over lies past it.
 use Rattle.std.proofs.Common.{◌≡◌, ℕ, zero, suc, ◌+◌, ◌-◌, ◌<◌, ◌≤◌, List, [], ◌∷◌, length, get_or, ℤ, pos, ◌≤ℤ◌, refl, inl, inr, arith}
 use borrow.Author.Differences.{ints}
-use Rattle.std.specs.List.{AllByRecursion as All}
+use Rattle.std.specs.List.{AllByRecursion}
 use Rattle.std.proofs.ByRecursion.{All-weaker}
 use Rattle.std.proofs.lemmas.Bool.{cases_lt}
 use Rattle.auction.specs.declared.offer.Offer.{Offer}
@@ -12,7 +12,7 @@ use Rattle.auction.proofs.Matching.{match_all}
 use Rattle.auction.proofs.Sides.{place_is, early, upto_le_bid, upto_le_ahead, upto_cons, in_its_tie, tenths, shared_out}
 
 -- both parts of a list's facts
-pub both : {X : Type 0} (P Q R : X → Type 0) → ((x : X) → P x → Q x → R x) → (xs : List X) → All P xs → All Q xs → All R xs
+pub both : {X : Type 0} (P Q R : X → Type 0) → ((x : X) → P x → Q x → R x) → (xs : List X) → AllByRecursion P xs → AllByRecursion Q xs → AllByRecursion R xs
 both P Q R f [] h k = tt
 both P Q R f (x ∷ xs) (h, hs) (k, ks) = (f x h k, both P Q R f xs hs ks)
 
@@ -35,7 +35,7 @@ module _ (g : ℕ → ℕ → ℕ → ℕ) (shares : Shares g) (rank : ℤ → �
         shares.whole l s (omega arith),
       )
 
-  fill_early : (m : ℤ) (l s c : ℕ) (os : List Offer) → All (λ o. 0 < matched_of o → rank (price_of o) ≤ℤ m) (fill g rank m l s c os)
+  fill_early : (m : ℤ) (l s c : ℕ) (os : List Offer) → AllByRecursion (λ o. 0 < matched_of o → rank (price_of o) ≤ℤ m) (fill g rank m l s c os)
   fill_early m l s c [] = tt
   fill_early m l s c (o ∷ os) =
       elim (place_is m (rank (price_of o))) [
@@ -46,8 +46,8 @@ module _ (g : ℕ → ℕ → ℕ → ℕ) (shares : Shares g) (rank : ℤ → �
 
   -- whole is the side, of which os is the rest
   fill_late : (m : ℤ) (l c : ℕ) (whole os : List Offer) → l ≤ tie rank m whole → c + tie rank m os ≤ tie rank m whole →
-      All (λ o. volume_of o ≤ tie rank (rank (price_of o)) whole) os →
-      All (λ o. matched_of o < volume_of o → ahead rank m whole + l < ahead rank (rank (price_of o)) whole + tie rank (rank (price_of o)) whole) (fill g rank m l (tie rank m whole) c os)
+      AllByRecursion (λ o. volume_of o ≤ tie rank (rank (price_of o)) whole) os →
+      AllByRecursion (λ o. matched_of o < volume_of o → ahead rank m whole + l < ahead rank (rank (price_of o)) whole + tie rank (rank (price_of o)) whole) (fill g rank m l (tie rank m whole) c os)
   fill_late m l c whole [] fits room own = tt
   fill_late m l c whole (o ∷ os) fits room (w, own) =
       elim (place_is m (rank (price_of o))) [
@@ -64,17 +64,17 @@ module _ (g : ℕ → ℕ → ℕ → ℕ) (shares : Shares g) (rank : ℤ → �
             rw e.0 ((λ h. omega (arith, h, upto_le_ahead rank m (rank (price_of o)) whole e.1, w)), fill_late m l c whole os fits (omega arith) own)
       ]
 
-  nothing_early : (c : List ℤ) (os : List Offer) → All (Early rank 0 c) (nothing os)
+  nothing_early : (c : List ℤ) (os : List Offer) → AllByRecursion (Early rank 0 c) (nothing os)
   nothing_early c [] = tt
   nothing_early c (o ∷ os) = ((λ h. absurd (omega arith)), nothing_early c os)
 
-  nothing_late : (whole os : List Offer) → All (λ o. volume_of o ≤ tie rank (rank (price_of o)) whole) os →
-      All (λ o. matched_of o < volume_of o → 0 < ahead rank (rank (price_of o)) whole + tie rank (rank (price_of o)) whole) (nothing os)
+  nothing_late : (whole os : List Offer) → AllByRecursion (λ o. volume_of o ≤ tie rank (rank (price_of o)) whole) os →
+      AllByRecursion (λ o. matched_of o < volume_of o → 0 < ahead rank (rank (price_of o)) whole + tie rank (rank (price_of o)) whole) (nothing os)
   nothing_late whole [] own = tt
   nothing_late whole (o ∷ os) (w, own) = ((λ h. omega (arith, h, w)), nothing_late whole os own)
 
   module _ (k : ℕ) (p : ℤ) where
-    pub match_early : (q : ℕ) (os : List Offer) → All (Early rank q (behind k p os)) (match_side g rank k p q os)
+    pub match_early : (q : ℕ) (os : List Offer) → AllByRecursion (Early rank q (behind k p os)) (match_side g rank k p q os)
     match_early zero os = nothing_early (behind k p os) os
     match_early (suc n) os =
         let m : ℤ = rank (nth_price (behind k p os) (suc n)) in
@@ -88,7 +88,7 @@ module _ (g : ℕ → ℕ → ℕ → ℕ) (shares : Shares g) (rank : ℤ → �
         let e = upto_cons rank (rank (price_of o)) (tenths k p) os b in
         (omega (arith, h u, e, upto_le_bid rank (rank (price_of o)) (tenths k p ∷ os)), early rank (rank (price_of o)) (tenths k p ∷ os) q sorted (omega (arith, h u, e)))
 
-    pub match_late : (q : ℕ) (os : List Offer) → Sorted rank (tenths k p ∷ os) → q ≤ length (behind k p os) → k ≤ q → All (Late rank q (behind k p os)) (match_side g rank k p q os)
+    pub match_late : (q : ℕ) (os : List Offer) → Sorted rank (tenths k p ∷ os) → q ≤ length (behind k p os) → k ≤ q → AllByRecursion (Late rank q (behind k p os)) (match_side g rank k p q os)
     match_late zero os sorted l h =
         both (λ o. matched_of o < volume_of o → 0 < ahead rank (rank (price_of o)) os + tie rank (rank (price_of o)) os) (λ o. rank p ≤ℤ rank (price_of o)) (Late rank 0 (behind k p os))
         (λ o u b. late_from 0 os sorted o (λ w. omega (arith, u w)) b) (nothing os)

@@ -1,6 +1,6 @@
 -- What is matched of a side: it sums to the amount less the tenths ahead, and stays within the bids.
 use Rattle.std.proofs.Common.{◌≡◌, ℕ, zero, suc, ◌+◌, ◌-◌, ◌≤◌, List, [], ◌∷◌, length, ℤ, refl, ap, inl, inr, arith}
-use Rattle.std.specs.List.{AllByRecursion as All}
+use Rattle.std.specs.List.{AllByRecursion}
 use Rattle.std.proofs.lemmas.Bool.{cases_Bool}
 use Rattle.market.specs.declared.block.Bid.{Bid}
 use Rattle.market.specs.declared.zone.Zone.{Zone}
@@ -17,7 +17,7 @@ sum_of [] = 0
 sum_of (o ∷ os) = matched_of o + sum_of os
 
 abbrev pub AllWithin : List Offer → Type 0
-AllWithin os = All (λ o. matched_of o ≤ volume_of o) os
+AllWithin os = AllByRecursion (λ o. matched_of o ≤ volume_of o) os
 
 nothing_total : (os : List Offer) → sum_of (nothing os) ≡ 0
 nothing_total [] = refl
@@ -68,16 +68,16 @@ side_matched g shares rank k p (suc n) os sorted l h =
     }
 
 -- what holds of the zones and bids of a side holds of them when it is matched
-nothing_all : (P : Zone → Bid → Type 0) (os : List Offer) → All (λ o. P o.zone o.block.bid) os → All (λ o. P o.zone o.block.bid) (nothing os)
+nothing_all : (P : Zone → Bid → Type 0) (os : List Offer) → AllByRecursion (λ o. P o.zone o.block.bid) os → AllByRecursion (λ o. P o.zone o.block.bid) (nothing os)
 nothing_all P [] h = tt
 nothing_all P (o ∷ os) (h, hs) = (h, nothing_all P os hs)
 
 module _ (g : ℕ → ℕ → ℕ → ℕ) (rank : ℤ → ℤ) where
-  fill_all : (P : Zone → Bid → Type 0) (m : ℤ) (l s c : ℕ) (os : List Offer) → All (λ o. P o.zone o.block.bid) os → All (λ o. P o.zone o.block.bid) (fill g rank m l s c os)
+  fill_all : (P : Zone → Bid → Type 0) (m : ℤ) (l s c : ℕ) (os : List Offer) → AllByRecursion (λ o. P o.zone o.block.bid) os → AllByRecursion (λ o. P o.zone o.block.bid) (fill g rank m l s c os)
   fill_all P m l s c [] h = tt
   fill_all P m l s c (o ∷ os) (h, hs) = (h, fill_all P m l s (by_place c (c + volume_of o) c (place m (rank (price_of o)))) os hs)
 
-  pub match_all : (P : Zone → Bid → Type 0) (k : ℕ) (p : ℤ) (q : ℕ) (os : List Offer) → All (λ o. P o.zone o.block.bid) os → All (λ o. P o.zone o.block.bid) (match_side g rank k p q os)
+  pub match_all : (P : Zone → Bid → Type 0) (k : ℕ) (p : ℤ) (q : ℕ) (os : List Offer) → AllByRecursion (λ o. P o.zone o.block.bid) os → AllByRecursion (λ o. P o.zone o.block.bid) (match_side g rank k p q os)
   match_all P k p zero os h = nothing_all P os h
   match_all P k p (suc n) os h =
       let m : ℤ = rank (nth_price (behind k p os) (suc n)) in

@@ -2,7 +2,7 @@
 use Rattle.std.proofs.Common.{◌≡◌, ℕ, ◌+◌, Bool, true, false, cond, List, [], ◌∷◌, ℤ, ◌≤ℤ◌, refl, ap, inl, inr, arith}
 use borrow.Author.Differences.{ints}
 use lib.Signed.{lt_z}
-use Rattle.std.specs.List.{AllByRecursion as All}
+use Rattle.std.specs.List.{AllByRecursion}
 use Rattle.std.proofs.ByRecursion.{All-weaker}
 use Rattle.std.proofs.lemmas.Int.{by_lt_z}
 use Rattle.std.proofs.lemmas.Bool.{cases_Bool, both_ways}
@@ -30,7 +30,7 @@ none_of_two : (cs : List Block) → part One (alone Two cs) ≡ []
 none_of_two [] = refl
 none_of_two (c ∷ cs) = none_of_two cs
 
-pub all_alone : (P : Zone → Block → Type 0) (z : Zone) (bs : List Block) → All (P z) bs → All (λ o. P o.zone o.block) (alone z bs)
+pub all_alone : (P : Zone → Block → Type 0) (z : Zone) (bs : List Block) → AllByRecursion (P z) bs → AllByRecursion (λ o. P o.zone o.block) (alone z bs)
 all_alone P z [] h = tt
 all_alone P z (b ∷ bs) (h, hs) = (h, all_alone P z bs hs)
 
@@ -58,8 +58,8 @@ later_ranked rank b c h =
 
 module _ (rank : ℤ → ℤ) where
   -- what holds of the blocks of both zones
-  weave_all : (P : Zone → Block → Type 0) (b : Block) (rest : List Block → List Offer) → P One b → ((cs : List Block) → All (P Two) cs → All (λ o. P o.zone o.block) (rest cs)) →
-      (cs : List Block) → All (P Two) cs → All (λ o. P o.zone o.block) (weave rank b rest cs)
+  weave_all : (P : Zone → Block → Type 0) (b : Block) (rest : List Block → List Offer) → P One b → ((cs : List Block) → AllByRecursion (P Two) cs → AllByRecursion (λ o. P o.zone o.block) (rest cs)) →
+      (cs : List Block) → AllByRecursion (P Two) cs → AllByRecursion (λ o. P o.zone o.block) (weave rank b rest cs)
   weave_all P b rest h hs [] k = (h, hs [] tt)
   weave_all P b rest h hs (c ∷ cs) (k, ks) =
       elim (cases_Bool (comes_first rank c b)) [
@@ -67,7 +67,7 @@ module _ (rank : ℤ → ℤ) where
         | inr e ↦ rw e (h, hs (c ∷ cs) (k, ks))
       ]
 
-  pub all_merged : (P : Zone → Block → Type 0) (bs cs : List Block) → All (P One) bs → All (P Two) cs → All (λ o. P o.zone o.block) (merged rank bs cs)
+  pub all_merged : (P : Zone → Block → Type 0) (bs cs : List Block) → AllByRecursion (P One) bs → AllByRecursion (P Two) cs → AllByRecursion (λ o. P o.zone o.block) (merged rank bs cs)
   all_merged P [] cs h k = all_alone P Two cs k
   all_merged P (b ∷ bs) cs (h, hs) k = weave_all P b (merged rank bs) h (λ xs u. all_merged P bs xs hs u) cs k
 
@@ -119,7 +119,7 @@ module _ (rank : ℤ → ℤ) where
   part_two (b ∷ bs) cs = weave_two b bs (part_two bs) cs
 
 -- what holds of each offer's block holds of each block of a zone
-pub all_part : (P : Block → Type 0) (z : Zone) (os : List Offer) → All (λ o. P o.block) os → All P (part z os)
+pub all_part : (P : Block → Type 0) (z : Zone) (os : List Offer) → AllByRecursion (λ o. P o.block) os → AllByRecursion P (part z os)
 all_part P z [] h = tt
 all_part P z (o ∷ os) (h, hs) =
     elim (cases_Bool (same_zone z o.zone)) [
@@ -143,7 +143,7 @@ sum_parts (o ∷ os) =
     (omega (arith, sum_parts os, either_zone o.zone o.block.matched (total (part One os)) (total (part Two os))))
 
 -- and of a zone alone its own part does
-pub sum_own : (z : Zone) (os : List Offer) → All (λ o. o.zone ≡ z) os → total (part z os) ≡ sum_of os
+pub sum_own : (z : Zone) (os : List Offer) → AllByRecursion (λ o. o.zone ≡ z) os → total (part z os) ≡ sum_of os
 sum_own z [] h = refl
 sum_own z (o ∷ os) (h, hs) = rw (h, same_zone_same z) (omega (arith, sum_own z os hs))
 

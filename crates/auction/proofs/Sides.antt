@@ -2,7 +2,7 @@
 use Rattle.std.proofs.Common.{◌≡◌, ℕ, zero, suc, ◌+◌, ◌-◌, ◌<◌, ◌≤◌, true, false, ◌⊎◌, List, [], ◌∷◌, length, get_or, take, replicate, ℤ, pos, neg_ℤ, ◌≤ℤ◌, ◌<ℤ◌, sym, refl, ap, ◌∙◌, inl, inr, arith}
 use borrow.Author.Differences.{ints}
 use lib.Signed.{lt_z}
-use Rattle.std.specs.List.{AllByRecursion as All}
+use Rattle.std.specs.List.{AllByRecursion}
 use Rattle.std.proofs.lemmas.List.{length-append, length-replicate, get_or_append_left, get_or-append_right, get_or-replicate}
 use Rattle.std.proofs.lemmas.Int.{by_lt_z}
 use Rattle.std.proofs.ByRecursion.{All-weaker}
@@ -40,7 +40,7 @@ place_is m r =
 
 module _ (rank : ℤ → ℤ) where
   -- the least rank of a list bounds its curve
-  pub at_least : (r : ℤ) (bs : List Offer) (j : ℕ) → All (λ c. r ≤ℤ rank (price_of c)) bs → j < bid bs → r ≤ℤ rank (get_or (curve bs) j (pos 0))
+  pub at_least : (r : ℤ) (bs : List Offer) (j : ℕ) → AllByRecursion (λ c. r ≤ℤ rank (price_of c)) bs → j < bid bs → r ≤ℤ rank (get_or (curve bs) j (pos 0))
   at_least r [] j h l = absurd (omega arith)
   at_least r (b ∷ bs) j (h, hs) l =
       elim (cases_lt j (volume_of b)) [
@@ -49,7 +49,7 @@ module _ (rank : ℤ → ℤ) where
       ]
 
   -- nothing is ahead of a rank that bounds the list
-  pub none_ahead : (r : ℤ) (bs : List Offer) → All (λ c. r ≤ℤ rank (price_of c)) bs → ahead rank r bs ≡ 0
+  pub none_ahead : (r : ℤ) (bs : List Offer) → AllByRecursion (λ c. r ≤ℤ rank (price_of c)) bs → ahead rank r bs ≡ 0
   none_ahead r [] h = refl
   none_ahead r (b ∷ bs) (h, hs) =
       elim (place_is r (rank (price_of b))) [
@@ -59,7 +59,7 @@ module _ (rank : ℤ → ℤ) where
       ]
 
   -- nor is anything up to a rank below it
-  all_after : (r : ℤ) (bs : List Offer) → All (λ c. r <ℤ rank (price_of c)) bs → ahead rank r bs + tie rank r bs ≡ 0
+  all_after : (r : ℤ) (bs : List Offer) → AllByRecursion (λ c. r <ℤ rank (price_of c)) bs → ahead rank r bs + tie rank r bs ≡ 0
   all_after r [] h = refl
   all_after r (b ∷ bs) (h, hs) =
       elim (place_is r (rank (price_of b))) [
@@ -146,11 +146,11 @@ module _ (rank : ℤ → ℤ) where
         | inr (inr e) ↦ absurd (omega (arith, ints, e.1))
       ]
 
-  tie_all : (whole bs : List Offer) → ((r : ℤ) → tie rank r bs ≤ tie rank r whole) → All (λ b. volume_of b ≤ tie rank (rank (price_of b)) whole) bs
+  tie_all : (whole bs : List Offer) → ((r : ℤ) → tie rank r bs ≤ tie rank r whole) → AllByRecursion (λ b. volume_of b ≤ tie rank (rank (price_of b)) whole) bs
   tie_all whole [] h = tt
   tie_all whole (b ∷ bs) h = (omega (arith, tie_own b bs, h (rank (price_of b))), tie_all whole bs (λ r. omega (arith, tie_has r b bs, h r)))
 
-  pub in_its_tie : (bs : List Offer) → All (λ b. volume_of b ≤ tie rank (rank (price_of b)) bs) bs
+  pub in_its_tie : (bs : List Offer) → AllByRecursion (λ b. volume_of b ≤ tie rank (rank (price_of b)) bs) bs
   in_its_tie bs = tie_all bs bs (λ r. omega arith)
 
 -- what the checker reads past a slice's end

@@ -1,7 +1,7 @@
 -- The bracket's prices support what is matched, and there is one.
 use Rattle.std.proofs.Common.{◌≡◌, ℕ, zero, suc, ◌-◌, ◌<◌, ◌≤◌, Bool, true, List, [], ◌∷◌, length, get_or, ℤ, pos, neg_ℤ, ◌≤ℤ◌, ◌<ℤ◌, inl, inr, arith}
 use borrow.Author.Differences.{ints}
-use Rattle.std.specs.List.{AllByRecursion as All}
+use Rattle.std.specs.List.{AllByRecursion}
 use Rattle.std.proofs.ByRecursion.{All-weaker}
 use Rattle.std.proofs.lemmas.Int.{by_lt_z, clamps}
 use Rattle.std.proofs.lemmas.Bool.{cases_Bool, cases_lt, both_ways, ltb-true, lt-ltb}
@@ -16,7 +16,7 @@ use Rattle.auction.proofs.Sides.{rising, at_least, tenths}
 use Rattle.auction.proofs.Margin.{both, Early, Late, match_early, match_late}
 
 module _ (test : Offer → Bool) (z p : ℤ) where
-  highest_le : (os : List Offer) → z ≤ℤ p → All (λ o. test o ≡ true → price_of o ≤ℤ p) os → highest test z os ≤ℤ p
+  highest_le : (os : List Offer) → z ≤ℤ p → AllByRecursion (λ o. test o ≡ true → price_of o ≤ℤ p) os → highest test z os ≤ℤ p
   highest_le [] h k = h
   highest_le (o ∷ os) h (k, ks) =
       elim (cases_Bool (test o)) [
@@ -24,7 +24,7 @@ module _ (test : Offer → Bool) (z p : ℤ) where
         | inr e ↦ rw e (highest_le os h ks)
       ]
 
-  highest_out : (os : List Offer) → highest test z os ≤ℤ p → (z ≤ℤ p) × All (λ o. test o ≡ true → price_of o ≤ℤ p) os
+  highest_out : (os : List Offer) → highest test z os ≤ℤ p → (z ≤ℤ p) × AllByRecursion (λ o. test o ≡ true → price_of o ≤ℤ p) os
   highest_out [] h = (h, tt)
   highest_out (o ∷ os) h =
       elim (cases_Bool (test o)) [
@@ -32,7 +32,7 @@ module _ (test : Offer → Bool) (z p : ℤ) where
         | inr e ↦ let ih = highest_out os (rw e at h) in (ih.0, ((λ t. absurd (both_ways (test o) e t)), ih.1))
       ]
 
-  lowest_ge : (os : List Offer) → p ≤ℤ z → All (λ o. test o ≡ true → p ≤ℤ price_of o) os → p ≤ℤ lowest test z os
+  lowest_ge : (os : List Offer) → p ≤ℤ z → AllByRecursion (λ o. test o ≡ true → p ≤ℤ price_of o) os → p ≤ℤ lowest test z os
   lowest_ge [] h k = h
   lowest_ge (o ∷ os) h (k, ks) =
       elim (cases_Bool (test o)) [
@@ -40,7 +40,7 @@ module _ (test : Offer → Bool) (z p : ℤ) where
         | inr e ↦ rw e (lowest_ge os h ks)
       ]
 
-  lowest_out : (os : List Offer) → p ≤ℤ lowest test z os → (p ≤ℤ z) × All (λ o. test o ≡ true → p ≤ℤ price_of o) os
+  lowest_out : (os : List Offer) → p ≤ℤ lowest test z os → (p ≤ℤ z) × AllByRecursion (λ o. test o ≡ true → p ≤ℤ price_of o) os
   lowest_out [] h = (h, tt)
   lowest_out (o ∷ os) h =
       elim (cases_Bool (test o)) [
@@ -50,8 +50,8 @@ module _ (test : Offer → Bool) (z p : ℤ) where
 
 -- the price p supports what is matched of the two sides
 pub record Fair (p : ℤ) (ss ps : List Offer) : Type 0 where
-  pub sold : All (λ o. SaleFair p o.block) ss
-  pub bought : All (λ o. PurchaseFair p o.block) ps
+  pub sold : AllByRecursion (λ o. SaleFair p o.block) ss
+  pub bought : AllByRecursion (λ o. PurchaseFair p o.block) ps
 
 -- each price of the bracket does
 pub bracket_supports : (ss ps : List Offer) (p : ℤ) → low_end ss ps ≤ℤ p → p ≤ℤ high_end ss ps → Fair p ss ps
@@ -65,16 +65,16 @@ bracket_supports ss ps p l h = record {
       highs'.1 lows'.1;
 }
   where
-    lows : (highest part_left lowest_price ps ≤ℤ p) × All (λ o. part_matched o ≡ true → price_of o ≤ℤ p) ss
+    lows : (highest part_left lowest_price ps ≤ℤ p) × AllByRecursion (λ o. part_matched o ≡ true → price_of o ≤ℤ p) ss
     lows = highest_out part_matched (highest part_left lowest_price ps) p ss l
 
-    lows' : (lowest_price ≤ℤ p) × All (λ o. part_left o ≡ true → price_of o ≤ℤ p) ps
+    lows' : (lowest_price ≤ℤ p) × AllByRecursion (λ o. part_left o ≡ true → price_of o ≤ℤ p) ps
     lows' = highest_out part_left lowest_price p ps lows.0
 
-    highs' : (p ≤ℤ lowest part_left highest_price ss) × All (λ o. part_matched o ≡ true → p ≤ℤ price_of o) ps
+    highs' : (p ≤ℤ lowest part_left highest_price ss) × AllByRecursion (λ o. part_matched o ≡ true → p ≤ℤ price_of o) ps
     highs' = lowest_out part_matched (lowest part_left highest_price ss) p ps h
 
-    highs : (p ≤ℤ highest_price) × All (λ o. part_left o ≡ true → p ≤ℤ price_of o) ss
+    highs : (p ≤ℤ highest_price) × AllByRecursion (λ o. part_left o ≡ true → p ≤ℤ price_of o) ss
     highs = lowest_out part_left highest_price p ss highs'.0
 
 -- and a price within the limits that does lies in the bracket
@@ -108,7 +108,7 @@ apart c d q amount l l' =
     absurd (omega (arith, amount.largest (suc q) meet)))
 
 abbrev pub Limited : List Offer → Type 0
-Limited os = All (λ o. (lowest_price ≤ℤ price_of o) × (price_of o ≤ℤ highest_price)) os
+Limited os = AllByRecursion (λ o. (lowest_price ≤ℤ price_of o) × (price_of o ≤ℤ highest_price)) os
 
 pub ranged : (os : List Offer) (j : ℕ) → Limited os → j < length (curve os) → (lowest_price ≤ℤ get_or (curve os) j (pos 0)) × (get_or (curve os) j (pos 0) ≤ℤ highest_price)
 ranged os j h l =

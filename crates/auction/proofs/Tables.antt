@@ -1,6 +1,6 @@
 -- Sound tables give sides that are ready to clear.
 use Rattle.std.proofs.Common.{◌≡◌, ℕ, true, List, [], ◌∷◌, ◌++◌, length, drop, ◌≤ℤ◌, sym, refl, ap, ◌∙◌, arith}
-use Rattle.std.specs.List.{AllByRecursion as All}
+use Rattle.std.specs.List.{AllByRecursion}
 use Rattle.std.proofs.ByRecursion.{All-weaker, All-map}
 use Rattle.std.proofs.lemmas.List.{length-map, drop_all, append-nil}
 use Rattle.table.specs.Rows.{Rising}
@@ -35,16 +35,16 @@ purchases_order [] h = tt
 purchases_order (x ∷ xs) (h, hs) =
     (All-map (λ c. of_purchases x.block.bid.price ≤ℤ of_purchases c.bid.price) (λ y. y.block) xs (All-weaker (λ y. purchase_order.precedes x y ≡ true) (λ y. of_purchases x.block.bid.price ≤ℤ of_purchases y.block.bid.price) (λ y e. first_ranked of_purchases x.block y.block e) xs h), purchases_order xs hs)
 
-pub sale_prices : (xs : List Sale) → All (λ s. BlockWithinLimits s.block) xs → InLimits (sale_blocks xs)
+pub sale_prices : (xs : List Sale) → AllByRecursion (λ s. BlockWithinLimits s.block) xs → InLimits (sale_blocks xs)
 sale_prices xs h = All-map (λ b. PriceWithinLimits b.bid.price) (λ x. x.block) xs (All-weaker (λ x. BlockWithinLimits x.block) (λ x. PriceWithinLimits x.block.bid.price) (λ x k. k.0.1) xs h)
 
-sale_volumes : (xs : List Sale) → All (λ s. BlockWithinLimits s.block) xs → All (λ b. VolumeWithinLimits b.bid.volume) (sale_blocks xs)
+sale_volumes : (xs : List Sale) → AllByRecursion (λ s. BlockWithinLimits s.block) xs → AllByRecursion (λ b. VolumeWithinLimits b.bid.volume) (sale_blocks xs)
 sale_volumes xs h = All-map (λ b. VolumeWithinLimits b.bid.volume) (λ x. x.block) xs (All-weaker (λ x. BlockWithinLimits x.block) (λ x. VolumeWithinLimits x.block.bid.volume) (λ x k. k.0.2) xs h)
 
-pub purchase_prices : (xs : List Purchase) → All (λ s. BlockWithinLimits s.block) xs → InLimits (purchase_blocks xs)
+pub purchase_prices : (xs : List Purchase) → AllByRecursion (λ s. BlockWithinLimits s.block) xs → InLimits (purchase_blocks xs)
 purchase_prices xs h = All-map (λ b. PriceWithinLimits b.bid.price) (λ x. x.block) xs (All-weaker (λ x. BlockWithinLimits x.block) (λ x. PriceWithinLimits x.block.bid.price) (λ x k. k.0.1) xs h)
 
-purchase_volumes : (xs : List Purchase) → All (λ s. BlockWithinLimits s.block) xs → All (λ b. VolumeWithinLimits b.bid.volume) (purchase_blocks xs)
+purchase_volumes : (xs : List Purchase) → AllByRecursion (λ s. BlockWithinLimits s.block) xs → AllByRecursion (λ b. VolumeWithinLimits b.bid.volume) (purchase_blocks xs)
 purchase_volumes xs h = All-map (λ b. VolumeWithinLimits b.bid.volume) (λ x. x.block) xs (All-weaker (λ x. BlockWithinLimits x.block) (λ x. VolumeWithinLimits x.block.bid.volume) (λ x k. k.0.2) xs h)
 
 pub book_sound : (ss : List Sale) (ps : List Purchase) → TablesSound ss ps → BookSound (book ss ps)
@@ -105,7 +105,7 @@ pub written : (ps bs : List Block) → length ps ≡ length bs → ps ++ drop (l
 written ps bs e = rw (drop_all (length ps) bs (omega (arith, e))) (append-nil ps)
 
 -- the limits still hold when other volumes are matched
-pub worth_kept : (bs cs : List Block) → SameBids bs cs → Within cs → All (λ b. PriceWithinLimits b.bid.price) bs → All (λ b. VolumeWithinLimits b.bid.volume) bs → WorthWithinLimits cs
+pub worth_kept : (bs cs : List Block) → SameBids bs cs → Within cs → AllByRecursion (λ b. PriceWithinLimits b.bid.price) bs → AllByRecursion (λ b. VolumeWithinLimits b.bid.volume) bs → WorthWithinLimits cs
 worth_kept [] [] same h p v = tt
 worth_kept [] (c ∷ cs) same h p v = same_none c cs same
 worth_kept (b ∷ bs) [] same h p v = same_some b bs same

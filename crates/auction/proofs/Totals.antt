@@ -1,7 +1,7 @@
 -- Sums over the offers of a side and over the rows of a table.
 use Rattle.std.proofs.Common.{◌≡◌, ℕ, suc, ◌+◌, ◌<◌, ◌≤◌, Bool, true, false, cond, List, [], ◌∷◌, map, length, get_or, drop, ℤ, pos, negsuc, ◌*ℤ◌, neg_ℤ, ◌≤ℤ◌, refl, mul-le-mul, arith}
 use borrow.Author.Differences.{ints}
-use Rattle.std.specs.List.{AllByRecursion as All}
+use Rattle.std.specs.List.{AllByRecursion}
 use Rattle.std.proofs.lemmas.List.{drop_more, drop_all}
 use Rattle.market.specs.declared.block.Block.{Block}
 use Rattle.market.specs.declared.zone.Zone.{Zone}
@@ -26,6 +26,6 @@ pub worth_bounds : (p : ℤ) (m : ℕ) → PriceWithinLimits p → m ≤ 100000 
 worth_bounds (pos a) m (l, h) k = let u : a ≤ 300000 = omega (arith, ints, h) in let v = mul-le-mul u k in (omega (arith, ints, v), omega (arith, ints, v))
 worth_bounds (negsuc a) m (l, h) k = let u : suc a ≤ 300000 = omega (arith, ints, l) in let v = mul-le-mul u k in (omega (arith, ints, v), omega (arith, ints, v))
 
-pub all_unmap : {X Y : Type 0} (P : Y → Type 0) (f : X → Y) (xs : List X) → All P (map f xs) → All (λ x. P (f x)) xs
+pub all_unmap : {X Y : Type 0} (P : Y → Type 0) (f : X → Y) (xs : List X) → AllByRecursion P (map f xs) → AllByRecursion (λ x. P (f x)) xs
 all_unmap P f [] h = tt
 all_unmap P f (x ∷ xs) (h, hs) = (h, all_unmap P f xs hs)

@@ -1,7 +1,7 @@
 -- What is proved of a clearing. To believe: the hypotheses, which are the checks of the tables and the laws of the two rules, and the
 -- words of the schedules.
 use Rattle.std.specs.Prelude.{◌≡◌, ℕ, ◌≤◌, ◌⊎◌, List, [], ◌∷◌, ℤ, pos, ◌-ℤ◌, ◌*ℤ◌, neg_ℤ, ◌≤ℤ◌, ◌<ℤ◌}
-use Rattle.std.specs.List.{AllByRecursion as All}
+use Rattle.std.specs.List.{AllByRecursion}
 use Rattle.market.specs.declared.block.Block.{Block}
 use Rattle.market.specs.declared.zone.Zone.TheVariants.{One, Two}
 use Rattle.auction.specs.Offers.{of_sales, of_purchases}
@@ -12,12 +12,12 @@ use Rattle.rules.specs.Shares.{Shares}
 use Rattle.auction.specs.Clearing.{Pool, Outcome, matched_amount, together, exporting, importing, book_of, cleared, clearing}
 
 abbrev pub InLimits : List Block → Type 0
-InLimits bs = All (λ b. PriceWithinLimits b.bid.price) bs
+InLimits bs = AllByRecursion (λ b. PriceWithinLimits b.bid.price) bs
 
 -- the ranks of the blocks never fall
 abbrev pub InOrder : (ℤ → ℤ) → List Block → Type 0
 InOrder rank [] = Unit {0}
-InOrder rank (b ∷ bs) = All (λ c. rank b.bid.price ≤ℤ rank c.bid.price) bs × InOrder rank bs
+InOrder rank (b ∷ bs) = AllByRecursion (λ c. rank b.bid.price ≤ℤ rank c.bid.price) bs × InOrder rank bs
 
 -- the blocks of a zone as the checks leave them: sales by rising price, purchases by falling price, every price within the limits
 pub record BookSound (z : Book) : Type 0 where

@@ -1,7 +1,7 @@
 -- Schedules of two zones. To believe: what a schedule is, its flow and its surplus, when it is balanced within the capacities, and when
 -- a block trades at a loss or is short and would have gained.
 use Rattle.std.specs.Prelude.{◌≡◌, ℕ, ◌+◌, ◌<◌, ◌≤◌, List, [], ◌∷◌, map, ℤ, pos, ◌+ℤ◌, ◌-ℤ◌, ◌*ℤ◌, neg_ℤ, ◌≤ℤ◌}
-use Rattle.std.specs.List.{AllByRecursion as All}
+use Rattle.std.specs.List.{AllByRecursion}
 use Rattle.market.specs.declared.block.Block.{Block}
 
 -- the volume matched in all
@@ -16,7 +16,7 @@ money (b ∷ bs) = b.bid.price *ℤ pos b.matched +ℤ money bs
 
 -- no block is matched beyond what it bid for
 abbrev pub Within : List Block → Type 0
-Within bs = All (λ b. b.matched ≤ b.bid.volume) bs
+Within bs = AllByRecursion (λ b. b.matched ≤ b.bid.volume) bs
 
 -- two lists of the same bids, with maybe other volumes matched
 abbrev pub SameBids : List Block → List Block → Type 0
@@ -58,8 +58,8 @@ pub record PurchaseFair (p : ℤ) (b : Block) : Type 0 where
 
 -- the price p supports what is matched in the zone
 pub record Supports (p : ℤ) (z : Book) : Type 0 where
-  pub sales_fair : All (SaleFair p) z.sales
-  pub purchases_fair : All (PurchaseFair p) z.purchases
+  pub sales_fair : AllByRecursion (SaleFair p) z.sales
+  pub purchases_fair : AllByRecursion (PurchaseFair p) z.purchases
 
 -- the blocks of the two zones with what is matched of each
 pub record Schedule : Type 0 where

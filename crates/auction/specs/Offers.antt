@@ -1,7 +1,7 @@
 -- One side of the market: its blocks in the order in which they are matched. To believe: that sales go by rising
 -- price and purchases by falling price, then as the market has it at one price, and that where zones are merged the block that comes first is taken first, zone 1's where neither does.
 use Rattle.std.specs.Prelude.{ℕ, Bool, true, false, cond, List, [], ◌∷◌, map, ℤ, neg_ℤ, ◌≤ℤ◌}
-use Rattle.std.specs.List.{AllByRecursion as All}
+use Rattle.std.specs.List.{AllByRecursion}
 use Rattle.market.specs.Precedence.{lex, at_one_price}
 use Rattle.market.specs.declared.block.Block.{Block}
 use Rattle.market.specs.declared.zone.Side.{Side}
@@ -33,7 +33,7 @@ rank_of Purchase = of_purchases
 -- the ranks of the offers never fall
 abbrev pub Sorted : (ℤ → ℤ) → List Offer → Type 0
 Sorted rank [] = Unit {0}
-Sorted rank (o ∷ os) = All (λ x. rank (price_of o) ≤ℤ rank (price_of x)) os × Sorted rank os
+Sorted rank (o ∷ os) = AllByRecursion (λ x. rank (price_of o) ≤ℤ rank (price_of x)) os × Sorted rank os
 
 -- whether b stands before c: by the rank of the price and then as at one price
 unfoldable pub comes_first : (ℤ → ℤ) → Block → Block → Bool

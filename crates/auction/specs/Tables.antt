@@ -1,7 +1,7 @@
 -- The block tables that are cleared, as lists of their counted rows. To believe: that they are sound as their checks leave them, and no
 -- longer than a table may be.
 use Rattle.std.specs.Prelude.{◌≤◌, List, map, length}
-use Rattle.std.specs.List.{AllByRecursion as All}
+use Rattle.std.specs.List.{AllByRecursion}
 use Rattle.table.specs.Rows.{Sound}
 use Rattle.market.specs.declared.block.Block.{Block}
 use Rattle.market.specs.declared.purchase.Purchase.{Purchase}
@@ -28,4 +28,4 @@ pub record TablesSound (ss : List Sale) (ps : List Purchase) : Type 0 where
 
 -- no price outside its limits, and no more matched than a block may bid for
 abbrev pub WorthWithinLimits : List Block → Type 0
-WorthWithinLimits bs = All (λ b. PriceWithinLimits b.bid.price × (b.matched ≤ 100000)) bs
+WorthWithinLimits bs = AllByRecursion (λ b. PriceWithinLimits b.bid.price × (b.matched ≤ 100000)) bs

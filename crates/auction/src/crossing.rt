@@ -1,6 +1,6 @@
 // Where the curves of the two sides meet.
 ghost use Rattle.std.specs.Prelude.{◌≡◌, ◌-◌, ◌≤◌, min, [], length, drop};
-ghost use Rattle.std.specs.List.{AllByRecursion as All};
+ghost use Rattle.std.specs.List.{AllByRecursion};
 ghost use Rattle.market.specs.Limits.{VolumeWithinLimits, lowest_price, highest_price};
 ghost use Rattle.auction.specs.Curve.{Crossed, behind};
 ghost use Rattle.auction.specs.Offers.{of_sales, of_purchases, volume_of};
@@ -34,7 +34,7 @@ fn least(a: u32, b: u32) -> u32
 // The same place, with the next offer taken up where no tenth is left.
 fn filled(cursor: Cursor, offers: &[Offer]) -> Cursor
     requires counted { cursor.next ≤ length offers.now }
-    requires bids { All (λ o. VolumeWithinLimits (volume_of o)) offers.now }
+    requires bids { AllByRecursion (λ o. VolumeWithinLimits (volume_of o)) offers.now }
     ensures inside { result.next ≤ length offers.now }
     ensures same { behind result.left result.price (drop result.next offers.now) ≡ behind cursor.left cursor.price (drop cursor.next offers.now) }
     ensures ended { result.left ≡ 0 → drop result.next offers.now ≡ [] }

@@ -1,6 +1,6 @@
 // What is matched of one side.
 ghost use Rattle.std.specs.Prelude.{◌≡◌, ◌+◌, ◌-◌, ◌≤◌, length, ◌≤ℤ◌};
-ghost use Rattle.std.specs.List.{AllByRecursion as All};
+ghost use Rattle.std.specs.List.{AllByRecursion};
 ghost use Rattle.market.specs.Limits.{VolumeWithinLimits};
 ghost use Rattle.auction.specs.declared.side.Place.TheVariants.{Tied};
 ghost use Rattle.auction.specs.Curve.{ahead, behind, by_place, fill, match_side, nothing, nth_price, place, tie};
@@ -25,7 +25,7 @@ fn counted(place: Place, volume: u32) -> (u32, u32)
 
 // The tenths ahead of the marginal price, and those at it.
 fn standing(offers: &[Offer], side: Side, marginal: i32) -> (u32, u32)
-    requires bids { All (λ o. VolumeWithinLimits (volume_of o)) offers.now }
+    requires bids { AllByRecursion (λ o. VolumeWithinLimits (volume_of o)) offers.now }
     requires few { length offers.now ≤ 512 }
     ensures ahead { result.0 ≡ ahead (rank_of side) (rank_of side marginal) offers.now }
     ensures tied { result.1 ≡ tie (rank_of side) (rank_of side marginal) offers.now }
@@ -114,7 +114,7 @@ pub(crate) fn match_offers<S: SharingRule>(
     marginal: i32,
 )
     requires side { Ready (rank_of side) offers.old }
-    requires sorted { All (λ o. rank_of side limit ≤ℤ rank_of side (price_of o)) offers.old }
+    requires sorted { AllByRecursion (λ o. rank_of side limit ≤ℤ rank_of side (price_of o)) offers.old }
     requires placed { first ≤ amount }
     requires reached { amount ≤ length (behind first limit offers.old) }
     requires last { 1 ≤ amount → marginal ≡ nth_price (behind first limit offers.old) amount }

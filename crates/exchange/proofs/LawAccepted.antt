@@ -1,6 +1,6 @@
 -- What an accepted call was checked for: none of its causes holds.
 use Rattle.std.proofs.Common.{◌≡◌, ℕ, ◌<◌, ◌≤◌, Bool, true, List, [], ◌∷◌, length, ℤ, ◌≤ℤ◌, Ok, ⊎_elim, arith}
-use Rattle.std.specs.List.{AllByRecursion as All}
+use Rattle.std.specs.List.{AllByRecursion}
 use Rattle.std.proofs.lemmas.Int.{ints}
 use Rattle.std.proofs.lemmas.Bool.{cases_Bool, cases_lt, both_ways}
 use Rattle.table.specs.Rows.{seat}
@@ -34,7 +34,7 @@ stable_both p q n = (p (λ no-p. n (λ k. no-p k.0)), q (λ no-q. n (λ k. no-q 
 stable_true : (b : Bool) → Stable (b ≡ true)
 stable_true b n = ⊎_elim (λ t. t) (λ f. absurd (n (λ t. both_ways b f t))) (cases_Bool b)
 
-stable_all : {X : Type 0} (P : X → Type 0) → ((x : X) → Stable (P x)) → (xs : List X) → Stable (All P xs)
+stable_all : {X : Type 0} (P : X → Type 0) → ((x : X) → Stable (P x)) → (xs : List X) → Stable (AllByRecursion P xs)
 stable_all P each [] n = tt
 stable_all P each (x ∷ xs) n = stable_both (each x) (stable_all P each xs) n
 

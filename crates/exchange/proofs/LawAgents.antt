@@ -1,6 +1,6 @@
 -- Who has an account: each admitted agent has one, and no one else has.
 use Rattle.std.proofs.Common.{◌≡◌, ℕ, zero, suc, ◌+◌, ◌≤◌, Bool, true, false, cond, eqb, ltb, List, [], ◌∷◌, map, length, ℤ, filter, sym, refl, ap, ◌∙◌, ⊎_elim, arith}
-use Rattle.std.specs.List.{insert, AllByRecursion as All}
+use Rattle.std.specs.List.{insert, AllByRecursion}
 use Rattle.std.proofs.lemmas.Bool.{cases_Bool, eqb-true}
 use Rattle.std.proofs.lemmas.Bool.Decides.{nat_tests}
 use Rattle.std.proofs.ByRecursion.{All-weaker}
@@ -31,7 +31,7 @@ of_agent_posted agent es (x ∷ xs) =
     let go : P (eqb x.agent agent) = elim (eqb x.agent agent) as P [ true ↦ ap suc (of_agent_posted agent es xs) | false ↦ of_agent_posted agent es xs ] in
     go
 
-of_agent_none : (agent : ℕ) (xs : List Account) → All (λ y. eqb y.agent agent ≡ false) xs → accounts_of_agent agent xs ≡ 0
+of_agent_none : (agent : ℕ) (xs : List Account) → AllByRecursion (λ y. eqb y.agent agent ≡ false) xs → accounts_of_agent agent xs ≡ 0
 of_agent_none agent [] h = refl
 of_agent_none agent (x ∷ xs) h = let k = of_agent_none agent xs h.1 in rw h.0 k
 
@@ -42,7 +42,7 @@ one_at_most agent (x ∷ xs) h =
     ⊎_elim
     (λ t.
     let same : x.agent ≡ agent = eqb-true x.agent agent t in
-    let others : All (λ y. eqb y.agent agent ≡ false) xs = All-weaker (λ y. eqb x.agent y.agent ≡ false) (λ y. eqb y.agent agent ≡ false) (λ y d. grind (arith, nat_tests)) xs h.0 in
+    let others : AllByRecursion (λ y. eqb y.agent agent ≡ false) xs = All-weaker (λ y. eqb x.agent y.agent ≡ false) (λ y. eqb y.agent agent ≡ false) (λ y d. grind (arith, nat_tests)) xs h.0 in
     let none = of_agent_none agent xs others in
     rw t (omega arith))
     (λ t. rw t (one_at_most agent xs h.1))

@@ -1,6 +1,6 @@
 -- What each accepted call does to what is carried from session to session.
 use Rattle.std.proofs.Common.{◌≡◌, ℕ, zero, suc, true, false, List, [], ◌∷◌, map, ℤ, ◌+ℤ◌, sym, refl, ap, ◌∙◌, subst, subst₂, arith}
-use Rattle.std.specs.List.{insert, AllByRecursion as All}
+use Rattle.std.specs.List.{insert, AllByRecursion}
 use Rattle.std.proofs.ByRecursion.{All-map, All-weaker}
 use Rattle.std.proofs.lemmas.Int.{ints}
 use Rattle.table.specs.Rows.{Pairwise, Present, rank, with_row}
@@ -44,11 +44,11 @@ posted_pairs R es same [] h = tt
 posted_pairs R es same (x ∷ xs) h =
     (All-map (R (account_after es x)) (account_after es) xs (All-weaker (R x) (λ y. R (account_after es x) (account_after es y)) (same x) xs h.0), posted_pairs R es same xs h.1)
 
-posted_within : (es : List Entry) (xs : List Account) → All AccountWithinLimits xs → All (λ a. PositionWithinLimits a.position) (map (account_after es) xs) → All AccountWithinLimits (map (account_after es) xs)
+posted_within : (es : List Entry) (xs : List Account) → AllByRecursion AccountWithinLimits xs → AllByRecursion (λ a. PositionWithinLimits a.position) (map (account_after es) xs) → AllByRecursion AccountWithinLimits (map (account_after es) xs)
 posted_within es [] h k = tt
 posted_within es (x ∷ xs) h k = ((h.0.0, k.0), posted_within es xs h.1 k.1)
 
-pub settled_sound : (o : Outcome) (xs : List Account) → All (λ a. PositionWithinLimits a.position) (accounts_after o xs) → SoundRows account_kind xs → SoundRows account_kind (accounts_after o xs)
+pub settled_sound : (o : Outcome) (xs : List Account) → AllByRecursion (λ a. PositionWithinLimits a.position) (accounts_after o xs) → SoundRows account_kind xs → SoundRows account_kind (accounts_after o xs)
 settled_sound o xs limits s = record {
   within = posted_within (block_entries o) xs s.within limits;
   rising = posted_pairs (λ x y. account_order.precedes x y ≡ true) (block_entries o) (λ x y e. e) xs s.rising;
@@ -89,7 +89,7 @@ module _ {P S : Type 0} (pricing : P → ℤ → ℤ → ℤ) (sharing : S → �
 
   -- the entries of the session posted
   pub ledger_settled : (h : History) (l m : Ledger) (t u : Places) → Balanced (to_settle (outcome_by pricing sharing e h)) → KnownAgents (to_settle (outcome_by pricing sharing e h)) (carried_by pricing sharing e h).accounts →
-      All (λ a. PositionWithinLimits a.position) (accounts_after (to_settle (outcome_by pricing sharing e h)) (carried_by pricing sharing e h).accounts) →
+      AllByRecursion (λ a. PositionWithinLimits a.position) (accounts_after (to_settle (outcome_by pricing sharing e h)) (carried_by pricing sharing e h).accounts) →
       m.last_session ≡ l.last_session → m.income ≡ (carried_by pricing sharing e (accepted Settle ∷ h)).income → m.residue ≡ (carried_by pricing sharing e (accepted Settle ∷ h)).residue →
       Holding (lent u.accounts m.accounts) (accounts_after (to_settle (outcome_by pricing sharing e h)) (carried_by pricing sharing e h).accounts) →
       LedgerAfter pricing sharing e h l t → LedgerAfter pricing sharing e (accepted Settle ∷ h) m u

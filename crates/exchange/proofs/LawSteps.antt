@@ -1,6 +1,6 @@
 -- What is after a history is, with an accepted or a refused call more, after the history with that event.
 use Rattle.std.proofs.Common.{◌≡◌, ℕ, List, ◌∷◌, ◌++◌, length, drop, ℤ, ◌+ℤ◌, Some, sym, refl, ap, ◌∙◌, subst, subst₂}
-use Rattle.std.specs.List.{AllByRecursion as All}
+use Rattle.std.specs.List.{AllByRecursion}
 use Rattle.std.proofs.lemmas.List.{length-map, length-take-le}
 use Rattle.rules.specs.Shares.{Shares}
 use Rattle.auction.specs.Best.{Prices}
@@ -263,7 +263,7 @@ module _ {P S : Type 0} (pricing : P → ℤ → ℤ → ℤ) (sharing : S → �
           phased = refl;
           ledger = ledger_settled pricing sharing e h s.ledger s'.ledger t u balanced
               (subst₂ (λ (x : Outcome) (zs : List Account). KnownAgents x zs) q r known)
-              (subst₂ (λ (x : Outcome) (zs : List Account). All (λ b. PositionWithinLimits b.position) (accounts_after x zs)) q r within.positions)
+              (subst₂ (λ (x : Outcome) (zs : List Account). AllByRecursion (λ b. PositionWithinLimits b.position) (accounts_after x zs)) q r within.positions)
               (ap (λ (l : Ledger). l.last_session) ledgers)
               (ap (λ (l : Ledger). l.income) ledgers ∙ ap (λ i. i +ℤ income_of o) a.ledger.income ∙ ap (λ (x : Outcome). (carried_by pricing sharing e h).income +ℤ income_of x) q)
               (ap (λ (l : Ledger). l.residue) ledgers ∙ ap (λ i. i +ℤ residue_of o) a.ledger.residue ∙ ap (λ (x : Outcome). (carried_by pricing sharing e h).residue +ℤ residue_of x) q)

@@ -1,6 +1,6 @@
 -- Between the accounts, the income and the residue nothing is lost.
 use Rattle.std.proofs.Common.{◌≡◌, ℕ, Bool, true, false, cond, ◌||◌, eqb, List, [], ◌∷◌, map, ℤ, pos, ◌+ℤ◌, sym, refl, ap, ◌∙◌, arith}
-use Rattle.std.specs.List.{AllByRecursion as All}
+use Rattle.std.specs.List.{AllByRecursion}
 use Rattle.std.proofs.lemmas.Int.{ints}
 use Rattle.std.proofs.lemmas.Bool.{eqb-true, eq-eqb, ne_eqb, eqb-false, false≢true}
 use Rattle.market.specs.Precedence.{account_order}
@@ -32,7 +32,7 @@ credit_own : (agent : ℕ) (cents : ℤ) (a : Account) → agent ≡ a.agent →
 credit_own agent cents a e = ap (λ b. cond b cents (pos 0)) (eq-eqb agent a.agent e)
 
 -- no account of these is the agent's
-no_owner : (agent : ℕ) (cents : ℤ) (own : Account) (xs : List Account) → agent ≡ own.agent → All (λ y. eqb own.agent y.agent ≡ false) xs → total (credit agent cents) xs ≡ pos 0
+no_owner : (agent : ℕ) (cents : ℤ) (own : Account) (xs : List Account) → agent ≡ own.agent → AllByRecursion (λ y. eqb own.agent y.agent ≡ false) xs → total (credit agent cents) xs ≡ pos 0
 no_owner agent cents own [] e h = refl
 no_owner agent cents own (x ∷ xs) e (here, h) =
     omega (arith, ints, credit_other agent cents x (λ same. eqb-false own.agent x.agent here (sym e ∙ same)), no_owner agent cents own xs e h)
@@ -50,7 +50,7 @@ one_owner agent cents (x ∷ xs) (others, apart) h =
     go refl h
 
 -- all that is posted
-pub all_posted : (es : List Entry) (xs : List Account) → Apart account_order xs → All (λ e. has_account xs e.agent ≡ true) es → total (λ a. posted a.agent es) xs ≡ total (λ e. e.cents) es
+pub all_posted : (es : List Entry) (xs : List Account) → Apart account_order xs → AllByRecursion (λ e. has_account xs e.agent ≡ true) es → total (λ a. posted a.agent es) xs ≡ total (λ e. e.cents) es
 all_posted [] xs apart known = total_none xs
 all_posted (e ∷ es) xs apart (here, known) =
     total_plus (credit e.agent e.cents) (λ a. posted a.agent es) xs ∙ ap (λ z. z +ℤ total (λ a. posted a.agent es) xs) (one_owner e.agent e.cents xs apart here) ∙ ap (λ z. e.cents +ℤ z) (all_posted es xs apart known)

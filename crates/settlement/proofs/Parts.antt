@@ -1,7 +1,7 @@
 -- The entries of a zone and of a session, part by part.
 use Rattle.std.proofs.Common.{◌≡◌, ◌+◌, Bool, true, false, List, [], ◌∷◌, ◌++◌, length, ℤ, ◌+ℤ◌, Decides, filter, sym, refl, ap, ◌∙◌, subst, arith, length-append}
 use lib.ListN.{length-map}
-use Rattle.std.specs.List.{AllByRecursion as All}
+use Rattle.std.specs.List.{AllByRecursion}
 use Rattle.std.proofs.ByRecursion.{All-append}
 use Rattle.std.proofs.lemmas.List.{map-append}
 use Rattle.std.proofs.lemmas.Int.{ints}
@@ -50,14 +50,14 @@ session_count o =
 
 -- what holds of each entry of two parts is decided by the parts
 module _ {X : Type 0} (P : X → Type 0) (xs ys zs : List X) (parts : zs ≡ xs ++ ys) where
-  join : All P xs → All P ys → All P zs
-  join h k = subst (All P) (sym parts) (All-append P xs ys h k)
+  join : AllByRecursion P xs → AllByRecursion P ys → AllByRecursion P zs
+  join h k = subst (AllByRecursion P) (sym parts) (All-append P xs ys h k)
 
-  pub both_true : {a b : Bool} → a ≡ true → Decides a (All P xs) → Decides b (All P ys) → Decides b (All P zs)
-  both_true = decides_second join (λ h. (all_parts P xs ys (subst (All P) parts h)).1)
+  pub both_true : {a b : Bool} → a ≡ true → Decides a (AllByRecursion P xs) → Decides b (AllByRecursion P ys) → Decides b (AllByRecursion P zs)
+  both_true = decides_second join (λ h. (all_parts P xs ys (subst (AllByRecursion P) parts h)).1)
 
-  pub both_false : {a : Bool} → a ≡ false → Decides a (All P xs) → Decides a (All P zs)
-  both_false = decides_first (λ h. (all_parts P xs ys (subst (All P) parts h)).0)
+  pub both_false : {a : Bool} → a ≡ false → Decides a (AllByRecursion P xs) → Decides a (AllByRecursion P zs)
+  both_false = decides_first (λ h. (all_parts P xs ys (subst (AllByRecursion P) parts h)).0)
 
 -- the cents of all entries, part by part
 pub block_cents : (o : Outcome) → total (λ e. e.cents) (entries_of o) ≡ total (λ e. e.cents) (block_entries o) +ℤ income_of o

@@ -1,6 +1,6 @@
 -- Posting changes positions alone, so accounts that are sound stay sound within the limits.
 use Rattle.std.proofs.Common.{◌≡◌, List, [], ◌∷◌, map, sym, subst}
-use Rattle.std.specs.List.{AllByRecursion as All}
+use Rattle.std.specs.List.{AllByRecursion}
 use Rattle.market.specs.Limits.{AccountWithinLimits, PositionWithinLimits}
 use Rattle.market.specs.Precedence.{account_order}
 use Rattle.market.specs.declared.account.Account.{Account}
@@ -14,11 +14,11 @@ pairwise_map : {X : Type 0} (R : X → X → Type 0) (f : X → X) (xs : List X)
 pairwise_map R f [] h = tt
 pairwise_map R f (x ∷ xs) (here, h) = (All-map (R (f x)) f xs here, pairwise_map R f xs h)
 
-within_after : (es : List Entry) (xs : List Account) → All AccountWithinLimits xs → All (λ a. PositionWithinLimits a.position) (map (account_after es) xs) → All AccountWithinLimits (map (account_after es) xs)
+within_after : (es : List Entry) (xs : List Account) → AllByRecursion AccountWithinLimits xs → AllByRecursion (λ a. PositionWithinLimits a.position) (map (account_after es) xs) → AllByRecursion AccountWithinLimits (map (account_after es) xs)
 within_after es [] h k = tt
 within_after es (x ∷ xs) (here, h) (there, k) = ((here.0, there), within_after es xs h k)
 
-sound_after : (o : Outcome) (xs : List Account) → All (λ a. PositionWithinLimits a.position) (accounts_after o xs) → Sound account_order AccountWithinLimits xs → Sound account_order AccountWithinLimits (accounts_after o xs)
+sound_after : (o : Outcome) (xs : List Account) → AllByRecursion (λ a. PositionWithinLimits a.position) (accounts_after o xs) → Sound account_order AccountWithinLimits xs → Sound account_order AccountWithinLimits (accounts_after o xs)
 sound_after o xs k s =
     let es = block_entries o in
     record {
@@ -27,5 +27,5 @@ sound_after o xs k s =
       apart = pairwise_map _ (account_after es) xs s.apart;
     }
 
-pub sound_posted : (o : Outcome) (xs ys : List Account) → ys ≡ accounts_after o xs → All (λ a. PositionWithinLimits a.position) (accounts_after o xs) → Sound account_order AccountWithinLimits xs → Sound account_order AccountWithinLimits ys
+pub sound_posted : (o : Outcome) (xs ys : List Account) → ys ≡ accounts_after o xs → AllByRecursion (λ a. PositionWithinLimits a.position) (accounts_after o xs) → Sound account_order AccountWithinLimits xs → Sound account_order AccountWithinLimits ys
 sound_posted o xs ys e k s = subst (Sound account_order AccountWithinLimits) (sym e) (sound_after o xs k s)

@@ -1,7 +1,7 @@
 -- What the entries of a session change: positions, the exchange's income and its residue.
 -- To believe: a position gains the entries of its agent's blocks, the income the income entry, the residue a tenth of all remainders.
 use Rattle.std.specs.Prelude.{◌≡◌, ℕ, suc, ◌/◌, Bool, true, false, cond, ◌||◌, List, [], ◌∷◌, map, ℤ, pos, negsuc, ◌+ℤ◌, ◌-ℤ◌, ◌*ℤ◌, neg_ℤ, ◌==◌}
-use Rattle.std.specs.List.{AllByRecursion as All}
+use Rattle.std.specs.List.{AllByRecursion}
 use Rattle.market.specs.Limits.{PositionWithinLimits}
 use Rattle.market.specs.declared.account.Account.{Account}
 use Rattle.settlement.specs.Rounding.{nearest_cent}
@@ -29,7 +29,7 @@ has_account (a ∷ rest) agent = a.agent == agent || has_account rest agent
 
 -- the agent of every matched block has an account
 abbrev pub KnownAgents : Outcome → List Account → Type 0
-KnownAgents o accounts = All (λ e. has_account accounts e.agent ≡ true) (block_entries o)
+KnownAgents o accounts = AllByRecursion (λ e. has_account accounts e.agent ≡ true) (block_entries o)
 
 abbrev pub income_of : Outcome → ℤ
 income_of o = nearest_cent (income_due o).exact
@@ -48,6 +48,6 @@ residue_of o = tenth (total remainder (session_dues o))
 
 -- no position, nor the income, nor the residue, stands past its limits after the last entry
 pub record WithinLimits (o : Outcome) (accounts : List Account) (income residue : ℤ) : Type 0 where
-  pub positions : All (λ a. PositionWithinLimits a.position) (accounts_after o accounts)
+  pub positions : AllByRecursion (λ a. PositionWithinLimits a.position) (accounts_after o accounts)
   pub incomes : PositionWithinLimits (income +ℤ income_of o)
   pub residues : PositionWithinLimits (residue +ℤ residue_of o)

@@ -1,6 +1,6 @@
 // Posting the entries of a session to the accounts.
 ghost use Rattle.std.specs.Prelude.{◌≡◌, ◌+ℤ◌, Decides};
-ghost use Rattle.std.specs.List.{AllByRecursion as All};
+ghost use Rattle.std.specs.List.{AllByRecursion};
 ghost use Rattle.market.specs.Limits.{PositionWithinLimits};
 ghost use Rattle.settlement.specs.Balance.{Balanced};
 ghost use Rattle.settlement.specs.Entries.{block_entries};
@@ -27,7 +27,7 @@ fn position_after(session: ClearedSession<'_>, account: Account) -> i128
 
 // Whether every position may stand where it does after the last entry.
 fn positions_may_stand(session: ClearedSession<'_>, accounts: &[Account]) -> bool
-    ensures { Decides result (All (λ a. PositionWithinLimits a.position) (accounts_after (outcome_of session.entry) accounts.now)) }
+    ensures { Decides result (AllByRecursion (λ a. PositionWithinLimits a.position) (accounts_after (outcome_of session.entry) accounts.now)) }
 {
     for account in accounts {
         if !may_stand(position_after(session, *account)) {
@@ -39,7 +39,7 @@ fn positions_may_stand(session: ClearedSession<'_>, accounts: &[Account]) -> boo
 
 // Posts the entries to the accounts.
 pub(crate) fn post(session: ClearedSession<'_>, accounts: &mut [Account])
-    requires { All (λ a. PositionWithinLimits a.position) (accounts_after (outcome_of session) accounts.old) }
+    requires { AllByRecursion (λ a. PositionWithinLimits a.position) (accounts_after (outcome_of session) accounts.old) }
     ensures { accounts.new ≡ accounts_after (outcome_of session.entry) accounts.old }
 {
     for i in 0..accounts.len() {

@@ -1,6 +1,6 @@
 // A cleared session: the counted blocks of each zone with their matched volumes, the zone's price, and the flow from zone 1 to zone 2.
 ghost use Rattle.std.specs.Prelude.{◌≡◌, ◌+◌, ◌*◌, ◌^◌, ◌<◌, ◌≤◌, true, length, set, pos, ◌+ℤ◌, Decides, unsigned_abs};
-ghost use Rattle.std.specs.List.{AllByRecursion as All};
+ghost use Rattle.std.specs.List.{AllByRecursion};
 ghost use Rattle.settlement.specs.Balance.{Balanced};
 ghost use Rattle.settlement.specs.Entries.{block_entries, entries_of, zone_entries};
 ghost use Rattle.settlement.specs.Writing.{written};
@@ -58,7 +58,7 @@ impl ClearedZone<'_> {
 
     // Whether the agent of every matched block has an account.
     fn agents_known(self, accounts: &[Account]) -> bool
-        ensures { Decides result (All (λ e. has_account accounts.now e.agent ≡ true) (zone_entries (zone_of self.entry))) }
+        ensures { Decides result (AllByRecursion (λ e. has_account accounts.now e.agent ≡ true) (zone_entries (zone_of self.entry))) }
     {
         let sellers = agents_known(self.sales, accounts);
         let buyers = agents_known(self.purchases, accounts);

@@ -1,6 +1,6 @@
 // The blocks of one side of one zone: what is matched of them, and what they are due. One loop for sales and purchases alike.
 ghost use Rattle.std.specs.Prelude.{◌≡◌, ◌+◌, ◌^◌, ◌<◌, ◌≤◌, true, [], ◌∷◌, length, ℤ, Decides, filter, unsigned_abs};
-ghost use Rattle.std.specs.List.{AllByRecursion as All};
+ghost use Rattle.std.specs.List.{AllByRecursion};
 ghost use Rattle.settlement.specs.Balance.{matched};
 ghost use Rattle.settlement.specs.Entries.{is_matched, side_entries};
 ghost use Rattle.settlement.specs.Writing.{written};
@@ -86,7 +86,7 @@ pub(crate) fn posted_cents<B: Traded>(blocks: &[B], price: i32, agent: u32) -> i
 
 // Whether a row needs no account, or its agent has one.
 fn row_known<B: Traded>(row: &B, accounts: &[Account]) -> bool
-    ensures { (price : ℤ) → Decides result (All (λ e. has_account accounts.now e.agent ≡ true) (side_entries B.trade price (row.now ∷ []))) }
+    ensures { (price : ℤ) → Decides result (AllByRecursion (λ e. has_account accounts.now e.agent ≡ true) (side_entries B.trade price (row.now ∷ []))) }
 {
     let block = row.block();
     block.matched == 0 || has_account(accounts, block.bid.agent)
@@ -94,7 +94,7 @@ fn row_known<B: Traded>(row: &B, accounts: &[Account]) -> bool
 
 // Whether the agent of every matched block has an account.
 pub(crate) fn agents_known<B: Traded>(blocks: &[B], accounts: &[Account]) -> bool
-    ensures { (price : ℤ) → Decides result (All (λ e. has_account accounts.now e.agent ≡ true) (side_entries B.trade price blocks.now)) }
+    ensures { (price : ℤ) → Decides result (AllByRecursion (λ e. has_account accounts.now e.agent ≡ true) (side_entries B.trade price blocks.now)) }
 {
     for row in blocks {
         if !row_known(row, accounts) {

@@ -1,7 +1,7 @@
 -- Numbers none of which stands twice: kept by a sort, seen at neighbours once sorted, and the same as keys that stand apart.
 use Rattle.std.proofs.Common.{◌≡◌, ℕ, suc, ◌+◌, ◌<◌, Bool, true, false, ◌⊎◌, List, [], ◌∷◌, ◌++◌, map, length, get_or, take, set, Decides, sym, refl, ap, ◌∙◌, subst, inl, inr, ⊎_elim, arith}
 use Rattle.std.specs.List.Sorted.{IsPermutation, IsNonDecreasing}
-use Rattle.std.specs.List.{swap, AllByRecursion as All}
+use Rattle.std.specs.List.{swap, AllByRecursion}
 use Rattle.std.proofs.lemmas.List.Edits.{length-swap, swapped_from_swap}
 use Rattle.std.proofs.ByRecursion.{All-from_get_or, All-get_or}
 use Rattle.std.proofs.lemmas.List.{get_or-map, length-map, map_more, take_more_set}
@@ -85,7 +85,7 @@ module _ {X K : Type 0} (o : Order X K) (l : Lawful o) (code : K → ℕ) (coded
       (λ x y p. ⊎_elim (λ t. absurd (let e : code (o.named x) ≡ code (o.named y) = ap code ((l.alike (o.named x) (o.named y)).0 t) in let z : ⊥ = omega arith in z)) (λ f. f) (cases_Bool (o.same (o.named x) (o.named y))))
       xs h
 
-  distinct_from_apart : (xs : List X) → All (λ x. coded (o.named x)) xs → Apart o xs → Distinct (map (λ x. code (o.named x)) xs)
+  distinct_from_apart : (xs : List X) → AllByRecursion (λ x. coded (o.named x)) xs → Apart o xs → Distinct (map (λ x. code (o.named x)) xs)
   distinct_from_apart [] c h i j li lj ne e = omega arith
   distinct_from_apart (y ∷ ys) c h i j li lj ne e =
       let xs = y ∷ ys in
@@ -95,7 +95,7 @@ module _ {X K : Type 0} (o : Order X K) (l : Lawful o) (code : K → ℕ) (coded
       ⊎_elim (λ p. no i j p (omega arith) same) (λ p. no j i (⊎_elim (λ k. k) (λ k. absurd (ne (omega arith))) (cases_lt j i)) (omega arith) (sym same)) (cases_lt i j)
 
   -- a test of the codes is a test of the keys
-  pub apart_decides : (xs : List X) (cs : List ℕ) (r : Bool) → cs ≡ map (λ x. code (o.named x)) xs → All (λ x. coded (o.named x)) xs → Decides r (Distinct cs) → Decides r (Apart o xs)
+  pub apart_decides : (xs : List X) (cs : List ℕ) (r : Bool) → cs ≡ map (λ x. code (o.named x)) xs → AllByRecursion (λ x. coded (o.named x)) xs → Decides r (Distinct cs) → Decides r (Apart o xs)
   apart_decides xs cs r e c d =
       (λ t. apart_from_distinct xs (subst Distinct e (d.0 t)), λ a. d.1 (subst Distinct (sym e) (distinct_from_apart xs c a)))
 

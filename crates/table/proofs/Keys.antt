@@ -1,6 +1,6 @@
 -- Where a key stands in a list of rows.
 use Rattle.std.proofs.Common.{◌≡◌, ℕ, suc, ◌+◌, ◌<◌, ◌≤◌, Bool, true, false, cond, not, ltb, List, [], ◌∷◌, length, get_or, take, is_some, Some, None, sym, refl, ap, ◌∙◌, one-add, arith}
-use Rattle.std.specs.List.{prefix_len, AllByRecursion as All}
+use Rattle.std.specs.List.{prefix_len, AllByRecursion}
 use Rattle.std.proofs.ByRecursion.{All-weaker}
 use Rattle.std.proofs.lemmas.Bool.{both_ways, not-true, not-false}
 use Rattle.std.proofs.lemmas.List.{length-take-le, get_or-take}
@@ -11,10 +11,10 @@ use Rattle.table.specs.Rows.{Absent, Apart, Present, found, seat}
 use Rattle.table.proofs.Pairs.{pairwise_get_or, pairwise_more}
 
 -- a test that every element passes
-leading_all : {X : Type 0} (p : X → Bool) (xs : List X) → prefix_len p xs ≡ length xs → All (λ x. p x ≡ true) xs
+leading_all : {X : Type 0} (p : X → Bool) (xs : List X) → prefix_len p xs ≡ length xs → AllByRecursion (λ x. p x ≡ true) xs
 leading_all p [] e = tt
 leading_all p (x ∷ xs) e =
-    let P : Bool → Type 0 = λ b. p x ≡ b → cond b (1 + prefix_len p xs) 0 ≡ suc (length xs) → All (λ y. p y ≡ true) (x ∷ xs) in
+    let P : Bool → Type 0 = λ b. p x ≡ b → cond b (1 + prefix_len p xs) 0 ≡ suc (length xs) → AllByRecursion (λ y. p y ≡ true) (x ∷ xs) in
     let go : P (p x) = elim (p x) as P [ true ↦ λ t h. (t, leading_all p xs (omega arith)) | false ↦ λ t h. absurd (let z : ⊥ = omega arith in z) ] in
     go refl e
 
@@ -28,7 +28,7 @@ leading_stops p (x ∷ xs) d h =
 
 module _ {X K : Type 0} (o : Order X K) where
   -- an absent key is the key of no row
-  pub absent_everywhere : (k : K) (xs : List X) → Absent o k xs → All (λ x. o.same (o.named x) k ≡ false) xs
+  pub absent_everywhere : (k : K) (xs : List X) → Absent o k xs → AllByRecursion (λ x. o.same (o.named x) k ≡ false) xs
   absent_everywhere k xs e =
       All-weaker (λ y. not (o.same (o.named y) k) ≡ true) (λ y. o.same (o.named y) k ≡ false) (λ y. not-true (o.same (o.named y) k)) xs (leading_all (λ y. not (o.same (o.named y) k)) xs e)
 

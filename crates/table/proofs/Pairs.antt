@@ -1,14 +1,14 @@
 -- Lists in which each element stands to each later one in a relation.
 use Rattle.std.proofs.Common.{◌≡◌, ℕ, zero, suc, ◌+◌, ◌-◌, ◌<◌, List, [], ◌∷◌, ◌++◌, length, get_or, take, drop, sym, ap, ◌∙◌, subst, arith}
-use Rattle.std.specs.List.{insert, remove, AllByRecursion as All}
+use Rattle.std.specs.List.{insert, remove, AllByRecursion}
 use Rattle.std.proofs.ByRecursion.{All-append, All-take, All-drop, All-get_or, All-push, All-weaker}
 use Rattle.std.proofs.lemmas.List.{take_more, get_or_read}
 use Rattle.table.specs.Rows.{Pairwise}
 
-pub all_inserted : {X : Type 0} (P : X → Type 0) (xs : List X) (i : ℕ) (x : X) → All P xs → P x → All P (insert xs i x)
+pub all_inserted : {X : Type 0} (P : X → Type 0) (xs : List X) (i : ℕ) (x : X) → AllByRecursion P xs → P x → AllByRecursion P (insert xs i x)
 all_inserted P xs i x h k = All-append P (take i xs) (x ∷ drop i xs) (All-take P i xs h) (k, All-drop P i xs h)
 
-pub all_removed : {X : Type 0} (P : X → Type 0) (xs : List X) (i : ℕ) → All P xs → All P (remove xs i)
+pub all_removed : {X : Type 0} (P : X → Type 0) (xs : List X) (i : ℕ) → AllByRecursion P xs → AllByRecursion P (remove xs i)
 all_removed P xs i h = All-append P (take i xs) (drop (suc i) xs) (All-take P i xs h) (All-drop P (suc i) xs h)
 
 pub pairwise_weaker : {X : Type 0} (R S : X → X → Type 0) → ((x y : X) → R x y → S x y) → (xs : List X) → Pairwise R xs → Pairwise S xs
@@ -22,7 +22,7 @@ module _ {X : Type 0} (R : X → X → Type 0) where
   pairwise_removed (x ∷ xs) zero h = h.1
   pairwise_removed (x ∷ xs) (suc i) h = (all_removed (R x) xs i h.0, pairwise_removed xs i h.1)
 
-  pub pairwise_inserted : ((x y : X) → R x y → R y x) → (xs : List X) (i : ℕ) (x : X) → Pairwise R xs → All (λ y. R y x) xs → Pairwise R (insert xs i x)
+  pub pairwise_inserted : ((x y : X) → R x y → R y x) → (xs : List X) (i : ℕ) (x : X) → Pairwise R xs → AllByRecursion (λ y. R y x) xs → Pairwise R (insert xs i x)
   pairwise_inserted turned xs zero x h k = (All-weaker (λ y. R y x) (R x) (λ y. turned y x) xs k, h)
   pairwise_inserted turned [] (suc i) x h k = (tt, tt)
   pairwise_inserted turned (y ∷ ys) (suc i) x h k = (all_inserted (R y) ys i x h.0 k.0, pairwise_inserted turned ys i x h.1 k.1)
@@ -43,20 +43,20 @@ module _ {X : Type 0} (R : X → X → Type 0) where
       let step = pairwise_get_or xs (i - 1) i a h (omega arith) b in
       subst (λ x. R x r) (sym ea) (subst (λ y. R (get_or xs (i - 1) a) y) (sym (get_or_read xs i r b er a)) step)
 
-  pub pairwise_push : (xs : List X) (x : X) → Pairwise R xs → All (λ y. R y x) xs → Pairwise R (xs ++ x ∷ [])
+  pub pairwise_push : (xs : List X) (x : X) → Pairwise R xs → AllByRecursion (λ y. R y x) xs → Pairwise R (xs ++ x ∷ [])
   pairwise_push [] x h k = (tt, tt)
   pairwise_push (y ∷ ys) x h k = (All-push (R y) ys x h.0 k.0, pairwise_push ys x h.1 k.1)
 
-  pub pairwise_last : (xs : List X) (x : X) → Pairwise R (xs ++ x ∷ []) → All (λ y. R y x) xs
+  pub pairwise_last : (xs : List X) (x : X) → Pairwise R (xs ++ x ∷ []) → AllByRecursion (λ y. R y x) xs
   pairwise_last [] x h = tt
   pairwise_last (y ∷ ys) x h = (last_of ys h.0, pairwise_last ys x h.1)
     where
-      last_of : (zs : List _) → All (R y) (zs ++ x ∷ []) → R y x
+      last_of : (zs : List _) → AllByRecursion (R y) (zs ++ x ∷ []) → R y x
       last_of [] k = k.0
       last_of (z ∷ zs) k = last_of zs k.1
 
   -- one element more
-  pub pairwise_more : (xs : List X) (i : ℕ) (r : X) → i < length xs → r ≡ get_or xs i r → Pairwise R (take i xs) → All (λ y. R y r) (take i xs) → Pairwise R (take (i + 1) xs)
+  pub pairwise_more : (xs : List X) (i : ℕ) (r : X) → i < length xs → r ≡ get_or xs i r → Pairwise R (take i xs) → AllByRecursion (λ y. R y r) (take i xs) → Pairwise R (take (i + 1) xs)
   pairwise_more xs i r b e h k =
       let next : take (i + 1) xs ≡ take i xs ++ r ∷ [] = take_more xs i r b ∙ ap (λ y. take i xs ++ y ∷ []) (sym e) in
       subst (λ ys. Pairwise R ys) (sym next) (pairwise_push (take i xs) r h k)
@@ -69,5 +69,5 @@ module _ {X : Type 0} (R : X → X → Type 0) where
       let split : take i xs ≡ take (i - 1) xs ++ a ∷ [] = ap (λ k. take k xs) (sym back) ∙ more in
       let under = pairwise_last (take (i - 1) xs) a (subst (λ ys. Pairwise R ys) split h) in
       let before = All-weaker (λ y. R y a) (λ y. R y r) (λ y k. chains y a r k up) (take (i - 1) xs) under in
-      let all = subst (λ ys. All (λ y. R y r) ys) (sym split) (All-push (λ y. R y r) (take (i - 1) xs) a before up) in
+      let all = subst (λ ys. AllByRecursion (λ y. R y r) ys) (sym split) (All-push (λ y. R y r) (take (i - 1) xs) a before up) in
       pairwise_more xs i r b er h all

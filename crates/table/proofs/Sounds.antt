@@ -1,6 +1,6 @@
 -- What an edit keeps of a sound table.
 use Rattle.std.proofs.Common.{◌≡◌, ℕ, ◌+◌, ◌-◌, ◌<◌, min, Bool, true, false, cond, List, [], ◌∷◌, ◌++◌, length, take, drop, Some, sym, refl, ap, ◌∙◌, subst, ⊎_elim, add-one, one-add, arith}
-use Rattle.std.specs.List.{insert, remove, AllByRecursion as All}
+use Rattle.std.specs.List.{insert, remove, AllByRecursion}
 use Rattle.std.proofs.lemmas.Bool.{both_ways, cases_lt}
 use Rattle.std.proofs.lemmas.List.{length-take-le, take_all, take_at}
 use Rattle.std.proofs.lemmas.List.Edits.{length-insert, length-remove}
@@ -24,11 +24,11 @@ module _ {X K : Type 0} (o : Order X K) (l : Lawful o) where
       elim (o.same b a) as P [ true ↦ λ h. absurd (both_ways (o.same a b) e ((l.alike a b).1 (sym ((l.alike b a).0 h)))) | false ↦ λ h. refl ] in
       go refl
 
-  before_rest : (r x : X) (xs : List X) → o.precedes r x ≡ true → All (λ y. o.precedes x y ≡ true) xs → All (λ y. o.precedes r y ≡ true) xs
+  before_rest : (r x : X) (xs : List X) → o.precedes r x ≡ true → AllByRecursion (λ y. o.precedes x y ≡ true) xs → AllByRecursion (λ y. o.precedes r y ≡ true) xs
   before_rest r x [] f h = tt
   before_rest r x (y ∷ ys) f h = (l.chains r x y f h.0, before_rest r x ys f h.1)
 
-  rising_put : (r : X) (xs : List X) → Rising o xs → All (λ y. o.same (o.named y) (o.named r) ≡ false) xs → Rising o (with_row o r xs)
+  rising_put : (r : X) (xs : List X) → Rising o xs → AllByRecursion (λ y. o.same (o.named y) (o.named r) ≡ false) xs → Rising o (with_row o r xs)
   rising_put r [] h d = (tt, tt)
   rising_put r (x ∷ xs) h d =
       let P : Bool → Type 0 = λ b. o.precedes x r ≡ b → Rising o (insert (x ∷ xs) (cond b (1 + rank o r xs) 0) r) in

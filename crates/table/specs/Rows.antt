@@ -1,13 +1,13 @@
 -- The counted rows of a table as a list: when they are sound, where a key stands, and the list that an edit leaves.
 -- To believe: that a sound table has every row within its limits, each row before every later one, and no key twice.
 use Rattle.std.specs.Prelude.{◌≡◌, ℕ, ◌<◌, true, false, cond, not, List, [], ◌∷◌, length, Some, None, Option, nat_lt}
-use Rattle.std.specs.List.{prefix_len, insert, remove, AllByRecursion as All}
+use Rattle.std.specs.List.{prefix_len, insert, remove, AllByRecursion}
 use Rattle.table.specs.Order.{Order}
 
 -- each element stands to each later one in R
 abbrev pub Pairwise : {X : Type 0} → (X → X → Type 0) → List X → Type 0
 Pairwise R [] = Unit {0}
-Pairwise R (x ∷ xs) = All (R x) xs × Pairwise R xs
+Pairwise R (x ∷ xs) = AllByRecursion (R x) xs × Pairwise R xs
 
 -- each row comes before every later one
 abbrev pub Rising : {X K : Type 0} → Order X K → List X → Type 0
@@ -22,7 +22,7 @@ abbrev pub Climbing : {X : Type 0} → (X → ℕ) → List X → Type 0
 Climbing f xs = Pairwise (λ x y. f x < f y) xs
 
 pub record Sound {X K : Type 0} (o : Order X K) (limits : X → Type 0) (xs : List X) : Type 0 where
-  pub within : All limits xs
+  pub within : AllByRecursion limits xs
   pub rising : Rising o xs
   pub apart : Apart o xs
 

@@ -1,6 +1,6 @@
 // The loops of a table, over plain slices.
 ghost use Rattle.std.specs.Prelude.{◌≡◌, ℕ, ◌+◌, ◌-◌, ◌<◌, ◌≤◌, ◌∷◌, ◌++◌, map, length, take, drop, Decides};
-ghost use Rattle.std.specs.List.{AllByRecursion as All};
+ghost use Rattle.std.specs.List.{AllByRecursion};
 ghost use Rattle.table.specs.Codes.{Changing, Distinct, Lacking, Sifted, spot};
 ghost use Rattle.table.specs.Rows.{Apart, Climbing, Rising, Sound, seat, rank};
 
@@ -68,7 +68,7 @@ pub(crate) fn close_at<R: Copy>(rows: &mut [R], p: usize, n: usize)
 
 // Whether each row is within its limits.
 pub(crate) fn all_within<R: Record>(rows: &[R]) -> bool
-    ensures { Decides result (All R.limits rows.now) }
+    ensures { Decides result (AllByRecursion R.limits rows.now) }
 {
     for row in rows {
         if !row.within_limits() {
@@ -108,7 +108,7 @@ fn keys_apart_slowly<R: Record>(rows: &[R]) -> bool
 fn gather<R: Record>(rows: &[R], codes: &mut [u64])
     requires { length codes.old ≡ length rows.now }
     ensures codes { codes.new ≡ map (λ x. R.code (R.order.named x)) rows.now }
-    ensures coded { All (λ x. R.coded (R.order.named x)) rows.now }
+    ensures coded { AllByRecursion (λ x. R.coded (R.order.named x)) rows.now }
 {
     for i in 0..rows.len() {
         codes[i] = rows[i].key_code();

@@ -1,6 +1,6 @@
 use borrow.Author.Differences.{ints}
 use Rattle.std.proofs.Common.{◌≡◌, ℕ, ◌+◌, ◌*◌, ◌<◌, ◌≤◌, List, map, length, get_or, drop, ℤ, pos, ◌+ℤ◌, ◌*ℤ◌, neg_ℤ, ◌≤ℤ◌, sym, ap, ◌∙◌, subst, arith, w32, w64, SFits, to_z, of_z, rules}
-use Rattle.std.specs.List.{AllByRecursion as All}
+use Rattle.std.specs.List.{AllByRecursion}
 use Rattle.std.proofs.ByRecursion.{All-get_or}
 use Rattle.std.proofs.lemmas.List.{drop_all}
 use Rattle.std.proofs.lemmas.Int.{to_z-of_z}
@@ -11,7 +11,7 @@ use Rattle.auction.proofs.Totals.{worth_bounds, all_unmap}
 use Rattle.auction.proofs.Weaving.{read_drop}
 use Rattle.auction.proofs.sums.money_of.Goals as goal
 
-row_limits : {X : Type 0} (f : X → Block) (xs : List X) (i : ℕ) (x : X) → i < length xs → x ≡ get_or xs i x → All (λ y. PriceWithinLimits (f y).bid.price × ((f y).matched ≤ 100000)) xs → PriceWithinLimits (f x).bid.price × ((f x).matched ≤ 100000)
+row_limits : {X : Type 0} (f : X → Block) (xs : List X) (i : ℕ) (x : X) → i < length xs → x ≡ get_or xs i x → AllByRecursion (λ y. PriceWithinLimits (f y).bid.price × ((f y).matched ≤ 100000)) xs → PriceWithinLimits (f x).bid.price × ((f x).matched ≤ 100000)
 row_limits {X} f xs i x h e k = subst (λ (y : X). PriceWithinLimits (f y).bid.price × ((f y).matched ≤ 100000)) (sym e) (All-get_or (λ y. PriceWithinLimits (f y).bid.price × ((f y).matched ≤ 100000)) xs i x h k)
 
 worth_of : (r : ℤ) (b d : Block) → SFits w32 b.bid.price → r ≡ to_z w32 (of_z w32 b.bid.price) *ℤ pos b.matched → b ≡ d → r ≡ d.bid.price *ℤ pos d.matched

@@ -1,6 +1,6 @@
 use Rattle.std.proofs.Common.{◌≡◌, get_or, ℤ, pos, ◌+ℤ◌, sym, refl, subst, arith, to_z, of_z}
 use mir.Syntax.{w128}
-use Rattle.std.specs.List.{AllByRecursion as All}
+use Rattle.std.specs.List.{AllByRecursion}
 use Rattle.std.proofs.ByRecursion.{All-get_or, All-map, All-more}
 use Rattle.std.proofs.lemmas.List.{take_all}
 use Rattle.std.proofs.lemmas.Int.{ints}
@@ -37,4 +37,4 @@ returns c =
     let es = block_entries (outcome_of c.args.session) in
     let xs = c.args.accounts.now in
     let all = take_all c.loop-account.account-index xs c.loop-account-test.false in
-    (λ _. All-map (λ b. PositionWithinLimits b.position) (account_after es) xs (subst (All (λ b. PositionWithinLimits (account_after es b).position)) all c.loop-account.invariant), λ _. refl)
+    (λ _. All-map (λ b. PositionWithinLimits b.position) (account_after es) xs (subst (AllByRecursion (λ b. PositionWithinLimits (account_after es b).position)) all c.loop-account.invariant), λ _. refl)

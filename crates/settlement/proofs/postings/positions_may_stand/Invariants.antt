@@ -1,5 +1,5 @@
 use Rattle.std.proofs.Common.{take}
-use Rattle.std.specs.List.{AllByRecursion as All}
+use Rattle.std.specs.List.{AllByRecursion}
 use Rattle.market.specs.Limits.{PositionWithinLimits}
 use Rattle.settlement.specs.Entries.{block_entries}
 use Rattle.settlement.specs.Postings.{account_after}
@@ -7,4 +7,4 @@ use Rattle.settlement.specs.Sessions.{outcome_of}
 use Rattle.settlement.proofs.postings.positions_may_stand.Given as goal
 
 abbrev pub invariant-loop-account : goal.invariant-loop-account
-invariant-loop-account l = All (λ a. PositionWithinLimits (account_after (block_entries (outcome_of l.session)) a).position) (take l.account-index l.accounts)
+invariant-loop-account l = AllByRecursion (λ a. PositionWithinLimits (account_after (block_entries (outcome_of l.session)) a).position) (take l.account-index l.accounts)

@@ -1,5 +1,5 @@
 use Rattle.std.proofs.Common.{◌≡◌, ◌+◌, true, [], ◌∷◌, drop, sym, refl, ap, subst}
-use Rattle.std.specs.List.{AllByRecursion as All}
+use Rattle.std.specs.List.{AllByRecursion}
 use Rattle.std.proofs.ByRecursion.{All-append}
 use Rattle.std.proofs.lemmas.List.{drop_all}
 use Rattle.std.proofs.lemmas.Bool.{false≢true}
@@ -18,7 +18,7 @@ returns-then-not-row_known g c = λ price.
     let r = c.row-item.result in
     let step = entries_step t price xs i r c.loop-row-test.true c.row-item.is in (
       λ e. absurd (false≢true e),
-      λ all. (c.if-not-row_known.ensures price).1 (all_parts known (side_entries t price (r ∷ [])) (side_entries t price (drop (i + 1) xs)) (subst (All known) step ((c.loop-row.invariant price).1 all))).0,
+      λ all. (c.if-not-row_known.ensures price).1 (all_parts known (side_entries t price (r ∷ [])) (side_entries t price (drop (i + 1) xs)) (subst (AllByRecursion known) step ((c.loop-row.invariant price).1 all))).0,
     )
 
 pub loop-row-preserved : goal.loop-row-preserved
@@ -32,8 +32,8 @@ loop-row-preserved g c = λ price.
     let rest = side_entries t price (drop (i + 1) xs) in
     let step = entries_step t price xs i r c.loop-row-test.true c.row-item.is in
     let here = (c.if-not-row_known.ensures price).0 refl in (
-      λ all. (c.loop-row.invariant price).0 (subst (All known) (sym step) (All-append known row rest here all)),
-      λ all. (all_parts known row rest (subst (All known) step ((c.loop-row.invariant price).1 all))).1,
+      λ all. (c.loop-row.invariant price).0 (subst (AllByRecursion known) (sym step) (All-append known row rest here all)),
+      λ all. (all_parts known row rest (subst (AllByRecursion known) step ((c.loop-row.invariant price).1 all))).1,
     )
 
 pub returns : goal.returns
@@ -41,4 +41,4 @@ returns g c = λ price.
     let known : Entry → Type 0 = λ e. has_account c.args.accounts.now e.agent ≡ true in
     let t = g.B.Traded.trade in
     let none = ap (side_entries t price) (drop_all c.loop-row.row-index c.args.blocks.now c.loop-row-test.false) in
-    (λ _. (c.loop-row.invariant price).0 (subst (All known) (sym none) tt), λ _. refl)
+    (λ _. (c.loop-row.invariant price).0 (subst (AllByRecursion known) (sym none) tt), λ _. refl)
