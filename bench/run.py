@@ -209,7 +209,7 @@ def growth_table(programs, seed):
 
 def main():
     arguments = argparse.ArgumentParser(description=__doc__.splitlines()[0])
-    arguments.add_argument("program", nargs="?", default=os.path.join(TOP, "target", "bin", "voipyndu"))
+    arguments.add_argument("program", nargs="?", default=os.path.join(TOP, "crates", "voipyndu", "out", "voipyndu"))
     arguments.add_argument("--seed", type=int, default=1)
     arguments.add_argument("--repeat", type=int, default=5)
     given = arguments.parse_args()

@@ -24,7 +24,7 @@ import limits
 from kinds import kinds_of
 
 TOP = os.path.dirname(os.path.dirname(os.path.abspath(__file__)))
-PROGRAM = os.path.join(TOP, "target", "bin", "voipyndu")
+PROGRAM = os.path.join(TOP, "crates", "voipyndu", "out", "voipyndu")
 STORED = os.path.join(TOP, "crates", "voipyndu", "stdin")
 
 # The refusals that a call file can reach, for each call (docs/REFUSALS.md).

@@ -18,15 +18,14 @@ import exchange
 from exchange import PURCHASE, SALE
 from kinds import kinds_of
 
-NAMES = {exchange.low_end: "low-end", exchange.midpoint: "midpoint",
-         exchange.by_precedence: "by-precedence", exchange.in_proportion: "in-proportion"}
+NAMES = {exchange.low_end: "low_end", exchange.midpoint: "midpoint",
+         exchange.by_precedence: "by_precedence", exchange.in_proportion: "in_proportion"}
 HEAD = """\
 -- Written by reference/definitions.py with seed {seed}: {count} sessions drawn at random, and what reference/exchange.py gives for each.
-use mathlib.Core.List.{{List, [], _∷_}}
-use lib.IntN.{{pos, negsuc}}
-use Rattle·rules.specs.Prices.{{low-end, midpoint}}
-use Rattle·rules.specs.Shares.{{by-precedence, in-proportion}}
-use Rattle·worked·specs.Session.{{Case, bid, bids, case, entry, gives, session}}
+use Rattle.std.specs.Prelude.{{List, [], ◌∷◌, pos, negsuc}}
+use Rattle.rules.specs.Prices.{{low_end, midpoint}}
+use Rattle.rules.specs.Shares.{{by_precedence, in_proportion}}
+use Rattle.worked.specs.Session.{{Case, bid, bids, case, entry, gives, session}}
 
 abbrev pub drawn : List Case
 drawn ="""
@@ -108,7 +107,7 @@ def main(seed=1, count=100):
         blocks, capacities, house, kinds = draw(random, rules, WANTED[place % len(WANTED)])
         counts.update(kinds)
         print(f"    case ({session_text(blocks, capacities, *rules)})")
-        print(f"      ({given_text(blocks, house)}) ∷")
+        print(f"    ({given_text(blocks, house)}) ∷")
     print("    []")
     print(*(f"{kind}: {times}" for kind, times in sorted(counts.items())), sep="\n", file=sys.stderr)
 

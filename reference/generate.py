@@ -5,7 +5,7 @@
 
 LINES is 5000 if it is not given. To compare the engine with exchange.py on it:
 
-    target/bin/voipyndu < CALLS > ENGINE; python3 reference/exchange.py < CALLS | cmp - ENGINE
+    crates/voipyndu/out/voipyndu < CALLS > ENGINE; python3 reference/exchange.py < CALLS | cmp - ENGINE
 
 Files of 3000 lines and more also fill a block table and the accounts. Only refusal 13 never comes up: a position
 reaches its limit after some 57,000 lines at the earliest. limits.py and sessions/write.py write such files.
