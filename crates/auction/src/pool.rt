@@ -25,9 +25,9 @@ pub(crate) fn clear_pool<S: SharingRule>(
     requires rising { Ready of_sales sales.old }
     requires falling { Ready of_purchases purchases.old }
     requires carried { (brought ≤ 30000000) × (taken ≤ 30000000) }
-    requires room { Room (record { sales = sales.now; purchases = purchases.old; brought = brought; taken = taken }) }
-    ensures sold { sales.exit.now ≡ (cleared (S.SharingRule.meaning rule.now) (record { sales = sales.entry.now; purchases = purchases.old; brought = brought; taken = taken })).sales }
-    ensures bought { purchases.new ≡ (cleared (S.SharingRule.meaning rule.now) (record { sales = sales.entry.now; purchases = purchases.old; brought = brought; taken = taken })).purchases }
+    requires room { Room (record { sales = sales.old; purchases = purchases.old; brought = brought; taken = taken }) }
+    ensures sold { sales.new ≡ (cleared (S.SharingRule.meaning rule.now) (record { sales = sales.old; purchases = purchases.old; brought = brought; taken = taken })).sales }
+    ensures bought { purchases.new ≡ (cleared (S.SharingRule.meaning rule.now) (record { sales = sales.old; purchases = purchases.old; brought = brought; taken = taken })).purchases }
     ensures bracket { result ≡ (low_end sales.new purchases.new, high_end sales.new purchases.new) }
 {
     let crossing = find_crossing(sales, brought, purchases, taken);

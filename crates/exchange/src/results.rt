@@ -8,21 +8,23 @@ use settlement::settle::Settled;
 
 // Of a call that leaves an idle exchange idle.
 pub(crate) fn still_idle<P, S>(
-    res: Result<Idle<P, S>, Refused<Idle<P, S>>>,
+    outcome: Result<Idle<P, S>, Refused<Idle<P, S>>>,
 ) -> (Exchange<P, S>, Answer)
-    ensures { ComesTo exchange.Idle exchange.Idle accepting res result.0 result.1 }
+    ensures { ComesTo exchange.Idle exchange.Idle accepting outcome result.0 result.1 }
 {
-    match res {
+    match outcome {
         Ok(state) => (Exchange::Idle(state), Answer::Accepted),
         Err(Refused { state, why }) => (Exchange::Idle(state), Answer::Refused(why)),
     }
 }
 
 // Of a call that opens an idle exchange.
-pub(crate) fn opened<P, S>(res: Result<Open<P, S>, Refused<Idle<P, S>>>) -> (Exchange<P, S>, Answer)
-    ensures { ComesTo exchange.Open exchange.Idle accepting res result.0 result.1 }
+pub(crate) fn opened<P, S>(
+    outcome: Result<Open<P, S>, Refused<Idle<P, S>>>,
+) -> (Exchange<P, S>, Answer)
+    ensures { ComesTo exchange.Open exchange.Idle accepting outcome result.0 result.1 }
 {
-    match res {
+    match outcome {
         Ok(state) => (Exchange::Open(state), Answer::Accepted),
         Err(Refused { state, why }) => (Exchange::Idle(state), Answer::Refused(why)),
     }
@@ -30,11 +32,11 @@ pub(crate) fn opened<P, S>(res: Result<Open<P, S>, Refused<Idle<P, S>>>) -> (Exc
 
 // Of a call that leaves an open exchange open.
 pub(crate) fn still_open<P, S>(
-    res: Result<Open<P, S>, Refused<Open<P, S>>>,
+    outcome: Result<Open<P, S>, Refused<Open<P, S>>>,
 ) -> (Exchange<P, S>, Answer)
-    ensures { ComesTo exchange.Open exchange.Open accepting res result.0 result.1 }
+    ensures { ComesTo exchange.Open exchange.Open accepting outcome result.0 result.1 }
 {
-    match res {
+    match outcome {
         Ok(state) => (Exchange::Open(state), Answer::Accepted),
         Err(Refused { state, why }) => (Exchange::Open(state), Answer::Refused(why)),
     }
@@ -42,11 +44,11 @@ pub(crate) fn still_open<P, S>(
 
 // Of a clearing.
 pub(crate) fn cleared<P, S>(
-    res: Result<Cleared<P, S>, Refused<Closed<P, S>>>,
+    outcome: Result<Cleared<P, S>, Refused<Closed<P, S>>>,
 ) -> (Exchange<P, S>, Answer)
-    ensures { ComesTo exchange.Cleared exchange.Closed reporting res result.0 result.1 }
+    ensures { ComesTo exchange.Cleared exchange.Closed reporting outcome result.0 result.1 }
 {
-    match res {
+    match outcome {
         Ok(state) => {
             let report = state.report();
             (Exchange::Cleared(state), Answer::Cleared(report))
@@ -57,11 +59,11 @@ pub(crate) fn cleared<P, S>(
 
 // Of a settlement.
 pub(crate) fn settled<P, S>(
-    res: Result<(Idle<P, S>, Settled), Refused<Cleared<P, S>>>,
+    outcome: Result<(Idle<P, S>, Settled), Refused<Cleared<P, S>>>,
 ) -> (Exchange<P, S>, Answer)
-    ensures { ComesTo settled_idle exchange.Cleared settling res result.0 result.1 }
+    ensures { ComesTo settled_idle exchange.Cleared settling outcome result.0 result.1 }
 {
-    match res {
+    match outcome {
         Ok(done) => {
             let (state, amounts) = done;
             (Exchange::Idle(state), Answer::Settled(amounts))
