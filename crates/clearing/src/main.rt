@@ -121,9 +121,6 @@ fn show_clearing<W: Write>(
 }
 
 impl<'a> Service for Desk<'a> {
-    // Nothing is promised of what a line makes of the desk.
-    ghost turns = { λ desk line after. Unit {0} };
-
     fn reply<W: Write>(self, out: &mut W, line: Option<&[u8]>) -> (Self, io::Result<()>) {
         let mut desk = self;
         let call = match line {

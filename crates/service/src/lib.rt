@@ -12,8 +12,8 @@ use std::io::{Read, Write};
 
 // What answers lines. It is handed on from line to line, so it may be a value that can neither be copied nor let go.
 pub trait Service: Sized {
-    // What a line, or one that was too long to be held, turns a service into.
-    ghost turns: { Self → Option (List ℕ) → Self → Type 0 };
+    // What a line, or one that was too long to be held, turns a service into. A service that says nothing promises nothing.
+    ghost turns: { Self → Option (List ℕ) → Self → Type 0 } = { λ service line after. Unit {0} };
 
     // Answers a line, or one that was too long to be held.
     fn reply<W: Write>(self, out: &mut W, line: Option<&[u8]>) -> (Self, io::Result<()>)
