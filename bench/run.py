@@ -3,7 +3,7 @@
 
     python3 bench/run.py [--seed N] [--repeat N] [PROGRAM]
 
-PROGRAM is target/bin/voipyndu if it is not given. The plain program is built with `rustc -O` into target/bench. Both
+PROGRAM is crates/voipyndu/out/voipyndu if it is not given. The plain program is built with `rustc -O` into target/bench. Both
 are run in turn on the same call files, each from its start to its end, and the best of several runs counts. What they
 write is compared; the exit status is 1 if it differs. Nothing is said about how fast a program should be.
 

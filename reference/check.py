@@ -3,9 +3,9 @@
 
     python3 reference/check.py [--seed N] [--files N] [--lines N] [--sessions N] [PROGRAM]
 
-PROGRAM is target/bin/voipyndu if it is not given. It is run on short files of odd shape, on crates/voipyndu/stdin, on
-the file of limits.py, and on `files` files of generate.py (20) with `lines` lines each (5000), from seed `seed` on
-(1). What it writes must be what exchange.py answers, byte for byte. Then brute.py tries all schedules of `sessions`
+PROGRAM is crates/voipyndu/out/voipyndu if it is not given. It is run on short files of odd shape, on the stored call
+files crates/voipyndu/stdin and reference/sessions/calls.txt, on the file of limits.py, and on `files` files of
+generate.py (20) with `lines` lines each (5000), from seed `seed` on (1). What it writes must be what exchange.py answers, byte for byte. Then brute.py tries all schedules of `sessions`
 small sessions (1000). How much was compared and what came up in it is printed. The exit status is 1 if anything
 differs; the first answer of a file that differs is then shown.
 """
@@ -25,7 +25,7 @@ from kinds import kinds_of
 
 TOP = os.path.dirname(os.path.dirname(os.path.abspath(__file__)))
 PROGRAM = os.path.join(TOP, "crates", "voipyndu", "out", "voipyndu")
-STORED = os.path.join(TOP, "crates", "voipyndu", "stdin")
+STORED = ("crates/voipyndu/stdin", "reference/sessions/calls.txt")
 
 # The refusals that a call file can reach, for each call (docs/REFUSALS.md).
 REACHABLE = {
@@ -109,8 +109,9 @@ def short_files():
 
 def call_files(given):
     yield from short_files()
-    with open(STORED, "rb") as file:
-        yield "crates/voipyndu/stdin", file.read()
+    for name in STORED:
+        with open(os.path.join(TOP, name), "rb") as file:
+            yield name, file.read()
     yield "limits.py", limits.call_file()
     for seed in range(given.seed, given.seed + given.files):
         yield f"generate.py {seed} {given.lines}", generate.Writer(seed, given.lines).file()
