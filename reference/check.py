@@ -5,9 +5,10 @@
 
 PROGRAM is crates/voipyndu/out/voipyndu if it is not given. It is run on short files of odd shape, on the stored call
 files crates/voipyndu/stdin and reference/sessions/calls.txt, on the file of limits.py, and on `files` files of
-generate.py (20) with `lines` lines each (5000), from seed `seed` on (1). What it writes must be what exchange.py answers, byte for byte. Then brute.py tries all schedules of `sessions`
-small sessions (1000). How much was compared and what came up in it is printed. The exit status is 1 if anything
-differs; the first answer of a file that differs is then shown.
+generate.py (20) with `lines` lines each (5000), from seed `seed` on (1). What it writes must be what exchange.py
+answers, byte for byte. Then brute.py tries all schedules of `sessions` small sessions (1000). How much was compared
+and what came up in it is printed. The exit status is 1 if anything differs; the first answer of a file that differs is
+then shown.
 """
 import argparse
 import io
