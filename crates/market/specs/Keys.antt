@@ -1,12 +1,13 @@
--- Bids with different keys never stand at one place of an order.
-use Rattle.std.specs.Prelude.{◌≡◌, ℕ, true, false, ◌∷◌, ℤ, Decides, ◌==◌}
+-- Lemmas for the laws of the orders: bids with different keys never stand at one place of an order. To believe: nothing.
+use Rattle.std.specs.Prelude.{◌≡◌, ℕ, true, false, List, ◌∷◌, ℤ, Decides, ◌==◌}
 use Rattle.std.proofs.Common.{ap, ◌∙◌, arith}
 use Rattle.std.proofs.lemmas.Bool.Decides.{Decides-and, Decides-eqb, Decides-like, nat_tests}
 use Rattle.std.proofs.lemmas.Bool.{both_ways}
+use Rattle.table.specs.Order.{Lawful}
 use Rattle.market.specs.Precedence.{at_one_price, key_of, lex, same_key}
 use Rattle.market.specs.declared.block.Bid.{Bid}
 use Rattle.market.specs.declared.block.BlockKey.{BlockKey}
-use Rattle.market.specs.Lexes.{lex_apart}
+use Rattle.market.specs.Lexes.{lex_apart, lex_chains, lex_never}
 
 pub key_decides : (a b : BlockKey) → Decides (same_key a b) (a ≡ b)
 key_decides a b =
@@ -24,3 +25,14 @@ ranks_apart p q a b d =
     let u : a.unit ≡ b.unit = cc in
     let n : a.number ≡ b.number = cc in
     both_ways (same_key (key_of a) (key_of b)) d (grind (arith, nat_tests)))
+
+-- rows that hold bids, in the order of what their prices count for
+pub ranked_lawful : {X : Type 0} (bid_in : X → Bid) (counted : Bid → ℤ) → Lawful {X = X} {K = BlockKey} (record { named = λ x. key_of (bid_in x); same = same_key; precedes = λ x y. lex (counted (bid_in x) ∷ at_one_price (bid_in x)) (counted (bid_in y) ∷ at_one_price (bid_in y)) })
+ranked_lawful {X} bid_in counted =
+    let ranked : X → List ℤ = λ x. counted (bid_in x) ∷ at_one_price (bid_in x) in
+    record {
+      alike = key_decides;
+      never = λ x. lex_never (ranked x);
+      chains = λ x y z. lex_chains (ranked x) (ranked y) (ranked z);
+      apart = λ x y. ranks_apart (counted (bid_in x)) (counted (bid_in y)) (bid_in x) (bid_in y);
+    }

@@ -1,4 +1,4 @@
--- The lexical order of lists of integers is strict and total.
+-- Lemmas for the laws of the orders: the lexical order of lists of integers is strict and total. To believe: nothing.
 use Rattle.std.specs.Prelude.{◌≡◌, ℕ, true, false, List, [], ◌∷◌, ℤ, ◌≢◌, int_lt, refl}
 use Rattle.std.proofs.Common.{⊎_elim, arith}
 use Rattle.std.proofs.lemmas.Int.{ints}

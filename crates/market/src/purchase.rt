@@ -1,9 +1,8 @@
 // A purchase block as a row of a table: the dearest comes first.
 ghost use Rattle.market.specs.Limits.{BlockWithinLimits};
 ghost use Rattle.std.specs.Prelude.{◌<◌, neg_ℤ};
-ghost use Rattle.market.specs.Precedence.{key_code, purchase_order, purchase_rank};
-ghost use Rattle.market.specs.Keys.{key_decides, ranks_apart};
-ghost use Rattle.market.specs.Lexes.{lex_never, lex_chains};
+ghost use Rattle.market.specs.Precedence.{key_code, purchase_order};
+ghost use Rattle.market.specs.Keys.{ranked_lawful};
 ghost use Rattle.std.proofs.Common.{rules};
 
 use crate::block::{Block, BlockKey};
@@ -29,12 +28,7 @@ impl Record for Purchase {
 
     ghost limits = { λ p. BlockWithinLimits p.block };
 
-    ghost lawful = { record {
-      alike = key_decides;
-      never = λ x. lex_never (purchase_rank x.block.bid);
-      chains = λ x y z. lex_chains (purchase_rank x.block.bid) (purchase_rank y.block.bid) (purchase_rank z.block.bid);
-      apart = λ x y. ranks_apart (neg_ℤ x.block.bid.price) (neg_ℤ y.block.bid.price) x.block.bid y.block.bid;
-    } };
+    ghost lawful = { ranked_lawful (λ p. p.block.bid) (λ b. neg_ℤ b.price) };
 
     ghost tells = { Prim.search rules };
 

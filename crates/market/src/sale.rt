@@ -1,9 +1,8 @@
 // A sale block as a row of a table: the cheapest comes first.
 ghost use Rattle.market.specs.Limits.{BlockWithinLimits};
 ghost use Rattle.std.specs.Prelude.{◌<◌};
-ghost use Rattle.market.specs.Precedence.{key_code, sale_order, sale_rank};
-ghost use Rattle.market.specs.Keys.{key_decides, ranks_apart};
-ghost use Rattle.market.specs.Lexes.{lex_never, lex_chains};
+ghost use Rattle.market.specs.Precedence.{key_code, sale_order};
+ghost use Rattle.market.specs.Keys.{ranked_lawful};
 ghost use Rattle.std.proofs.Common.{rules};
 
 use crate::block::{Block, BlockKey};
@@ -29,12 +28,7 @@ impl Record for Sale {
 
     ghost limits = { λ s. BlockWithinLimits s.block };
 
-    ghost lawful = { record {
-      alike = key_decides;
-      never = λ x. lex_never (sale_rank x.block.bid);
-      chains = λ x y z. lex_chains (sale_rank x.block.bid) (sale_rank y.block.bid) (sale_rank z.block.bid);
-      apart = λ x y. ranks_apart x.block.bid.price y.block.bid.price x.block.bid y.block.bid;
-    } };
+    ghost lawful = { ranked_lawful (λ s. s.block.bid) (λ b. b.price) };
 
     ghost tells = { Prim.search rules };
 

@@ -1,4 +1,4 @@
--- Rounding down shares fairly.
+-- Lemmas for the laws of sharing in proportion: rounding down shares fairly. To believe: nothing.
 use Rattle.std.specs.Prelude.{◌≡◌, ℕ, zero, suc, ◌+◌, ◌-◌, ◌*◌, ◌/◌, ◌<◌, ◌≤◌}
 use Rattle.std.proofs.Common.{ap, ◌∙◌, mul-div_cancel, le-div_iff_mul-le, div-mul-le_self, mul-le-mul_left, mul-le-mul_right, arith}
 use Rattle.std.proofs.Math.Nat.{div-zero, zero-div, add-mul-div_left}
