@@ -1,5 +1,5 @@
 -- The text of a call, as docs/CALLS.md gives it, which calls have one, and what it is to read a line. A reader must
--- believe this file, and that std's `decimal` and `signed` are what `{}` writes of a number.
+-- believe this file, and that std's `decimal` and `signed_decimal` are what `{}` writes of a number.
 use Rattle.std.specs.Prelude.{◌≡◌, ℕ, ◌≤◌, List, ◌++◌, ℤ, pos, negsuc, ◌≤ℤ◌, Some, None, codes, decimal, Option, ◌≢◌}
 use Rattle.std.specs.Fmt.{signed_decimal}
 use Rattle.market.specs.declared.block.Bid.{Bid}

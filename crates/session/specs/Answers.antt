@@ -1,5 +1,5 @@
 -- The text of an accepted clearing, as docs/CALLS.md gives it.
--- To believe: this text, and that std's `signed` is what `{}` writes of a number.
+-- To believe: this text, and that std's `signed_decimal` is what `{}` writes of a number.
 use Rattle.std.specs.Prelude.{ℕ, List, ◌++◌, codes}
 use Rattle.std.specs.Fmt.{signed_decimal}
 use Rattle.session.specs.declared.report.Report.{Report}

@@ -1,5 +1,5 @@
 -- The texts of an entry and of an accepted settlement, as docs/CALLS.md gives them.
--- To believe: these texts, and that std's `decimal` and `signed` are what `{}` writes of a number.
+-- To believe: these texts, and that std's `decimal` and `signed_decimal` are what `{}` writes of a number.
 use Rattle.std.specs.Prelude.{ℕ, List, ◌++◌, codes, decimal}
 use Rattle.std.specs.Fmt.{signed_decimal}
 use Rattle.settlement.specs.declared.entry.Entry.{Entry}
