@@ -1,6 +1,7 @@
 // Clearing one period of two zones.
 #![tactic(auto)]
 
+ghost use Rattle.std.specs.Prelude.{◌≡◌};
 ghost use Rattle.auction.specs.Best.{AmountFound, ClearingIsBest, TenthsPlaced};
 ghost use Rattle.auction.specs.Worked.{WorkedResults};
 
@@ -20,28 +21,32 @@ mod zones;
 
 // The downward search finds where the curves meet.
 pub fn amount_found() -> u8
-    ensures { AmountFound }
+    ensures theorem { AmountFound }
+    ensures value { result ≡ 0 }
 {
     0
 }
 
 // Where the zones as one exchange more than the line carries, its tenths are placed in each zone alone.
 pub fn tenths_placed() -> u8
-    ensures { TenthsPlaced }
+    ensures theorem { TenthsPlaced }
+    ensures value { result ≡ 0 }
 {
     0
 }
 
 // Whatever the two rules, the clearing is a balanced schedule that its prices support, and no other is better.
 pub fn clearing_is_best() -> u8
-    ensures { ClearingIsBest }
+    ensures theorem { ClearingIsBest }
+    ensures value { result ≡ 0 }
 {
     0
 }
 
 // The definitions give the worked results.
 pub fn worked_results() -> u8
-    ensures { WorkedResults }
+    ensures theorem { WorkedResults }
+    ensures value { result ≡ 0 }
 {
     0
 }

@@ -1,5 +1,5 @@
 use Rattle.auction.proofs.Best.{clearing_is_best}
 use Rattle.auction.proofs.clearing_is_best.Goals as goal
 
-pub returns : goal.returns
-returns c = clearing_is_best
+pub returns-clause-theorem : goal.returns-clause-theorem
+returns-clause-theorem c = clearing_is_best

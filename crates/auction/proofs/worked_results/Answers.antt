@@ -1,5 +1,5 @@
 use Rattle.auction.proofs.Worked.{worked_results}
 use Rattle.auction.proofs.worked_results.Goals as goal
 
-pub returns : goal.returns
-returns c = worked_results
+pub returns-clause-theorem : goal.returns-clause-theorem
+returns-clause-theorem c = worked_results
