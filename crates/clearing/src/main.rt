@@ -68,8 +68,7 @@ fn answer<W: Write>(out: &mut W, answer: Result<(), Refusal>) -> io::Result<()> 
     match answer {
         Ok(()) => writeln!(out, "(ok)"),
         Err(why) => {
-            let number = why.number();
-            writeln!(out, "(no {number})")
+            writeln!(out, "{why}")
         }
     }
 }

@@ -29,7 +29,7 @@ use Rattle.session.specs.Changes.{Admits, Becomes}
 use Rattle.auction.specs.Tables.{purchase_blocks, sale_blocks}
 use Rattle.exchange.specs.History.{Begun, History, accepted, begun, outcome, phase, refused, standing_book, standing_purchases, standing_sales, to_settle}
 use Rattle.session.specs.Tables.{Blocks, Counted, Full, Places, Stands, account_kind, as_purchases, as_sales, blocks_in, blocks_of, entered_in, in_zone, lent, purchase_kind, rows_of, sale_kind, withdrawn_in, zone_at}
-use Rattle.session.specs.declared.capacities.Capacities.{Capacities}
+use Rattle.market.specs.declared.capacities.Capacities.{Capacities}
 use Rattle.auction.specs.declared.engine.Engine.{Engine}
 use Rattle.exchange.specs.declared.exchange.Exchange.{Exchange}
 use Rattle.exchange.specs.declared.exchange.Exchange.TheVariants as exchange

@@ -17,13 +17,13 @@ ghost use Rattle.exchange.specs.declared.exchange.Exchange.TheVariants as exchan
 use auction::engine::Engine;
 use market::account::Account;
 use market::block::{Bid, BlockKey};
+use market::capacities::Capacities;
 use market::purchase::Purchase;
 use market::refusal::Refusal;
 use market::sale::Sale;
 use market::zone::Side;
 use rules::price::PriceRule;
 use rules::sharing::SharingRule;
-use session::capacities::Capacities;
 use session::counted::{clear_session, settle_session};
 use session::ledger::Ledger;
 use session::report::Report;

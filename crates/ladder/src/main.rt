@@ -39,8 +39,7 @@ impl<'a> Service for Desk<'a> {
         let done = match ladders.answer(line) {
             Ok(()) => writeln!(out, "(ok)"),
             Err(why) => {
-                let number = why.number();
-                writeln!(out, "(no {number})")
+                writeln!(out, "{why}")
             }
         };
         (Desk { ladders }, done)

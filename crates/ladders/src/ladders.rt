@@ -11,7 +11,6 @@ use market::purchase::Purchase;
 use market::refusal::Refusal;
 use market::sale::Sale;
 use market::zone::{Side, Zone};
-use table::fault::Refusal as Unplaced;
 use table::record::Record;
 use table::table::Table;
 
@@ -34,11 +33,7 @@ fn place<R: Record>(table: &mut Table<R>, row: R) -> Result<(), Refusal>
     ensures after { Placed R.order row table.old table.new result }
     ensures lent { table.new.rows.ghost_name ≡ table.old.rows.ghost_name }
 {
-    match table.insert(row) {
-        Ok(()) => Ok(()),
-        Err(Unplaced::Taken) => Err(Refusal::KeyTaken),
-        Err(Unplaced::Full) => Err(Refusal::TableFull),
-    }
+    Ok(table.insert(row)?)
 }
 
 impl<'a> Ladder<'a> {
@@ -89,13 +84,9 @@ impl<'a> Ladders<'a> {
     pub fn enter(&mut self, zone: u32, side: Side, bid: Bid) -> Result<(), Refusal>
         ensures { Entering zone side bid self.old self.new result }
     {
-        let Some(zone) = Zone::of(zone) else {
-            return Err(Refusal::OutsideLimits);
-        };
-        match bid.check() {
-            Ok(()) => self.put(zone, side, bid),
-            Err(why) => Err(why),
-        }
+        let zone = Zone::try_from(zone)?;
+        bid.check()?;
+        self.put(zone, side, bid)
     }
 
     // Enters the bid of a line; any other line is no form, and so is one that was too long to be held.

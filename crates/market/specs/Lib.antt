@@ -6,3 +6,4 @@ pub mod Entering
 pub mod Answers
 pub mod Keys
 pub mod Lexes
+pub mod Places

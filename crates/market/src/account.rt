@@ -6,7 +6,7 @@ ghost use Rattle.std.proofs.Common.{rules};
 use crate::limits::{agent_within, position_within};
 use table::record::Record;
 
-#[derive(Clone, Copy)]
+#[derive(Clone, Copy, PartialEq, Eq, Default)]
 pub struct Account {
     pub agent: u32,
     pub position: i64,

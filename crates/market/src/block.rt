@@ -3,7 +3,7 @@ ghost use Rattle.std.specs.Prelude.{◌≡◌, Decides};
 ghost use Rattle.market.specs.Limits.{BlockWithinLimits, KeyWithinLimits, NameWithinLimits};
 ghost use Rattle.market.specs.Entering.{bid_causes, fresh};
 ghost use Rattle.market.specs.Refusals.{FirstCause};
-ghost use Rattle.market.specs.Precedence.{at_one_price, key_code, key_of, lex, same_key};
+ghost use Rattle.market.specs.Precedence.{at_one_price, key_code, key_of, lex};
 
 use crate::limits::{
     agent_within, number_within, price_within, stamp_within, unit_within, volume_within,
@@ -11,7 +11,7 @@ use crate::limits::{
 use crate::refusal::Refusal;
 
 // What an agent enters.
-#[derive(Clone, Copy)]
+#[derive(Clone, Copy, PartialEq, Eq, Default)]
 pub struct Bid {
     pub agent: u32,
     pub unit: u32,
@@ -22,33 +22,29 @@ pub struct Bid {
 }
 
 // A bid as it stands in a table, with the part of its volume that is matched.
-#[derive(Clone, Copy)]
+#[derive(Clone, Copy, PartialEq, Eq, Default)]
 pub struct Block {
     pub bid: Bid,
     pub matched: u32,
 }
 
 // What tells the blocks of one table apart: the unit and the block number.
-#[derive(Clone, Copy)]
+#[derive(Clone, Copy, PartialEq, Eq)]
 pub struct BlockKey {
     pub unit: u32,
     pub number: u32,
 }
 
+// A number of the key, another one for every other key.
+impl From<BlockKey> for u64 {
+    ghost from_gives = { λ key code. code ≡ key_code key };
+
+    fn from(key: BlockKey) -> u64 {
+        key.unit as u64 * 0x1_0000_0000 + key.number as u64
+    }
+}
+
 impl BlockKey {
-    pub fn same(self, other: BlockKey) -> bool
-        ensures { result ≡ same_key self other }
-    {
-        self.unit == other.unit && self.number == other.number
-    }
-
-    // A number of the key, another one for every other key.
-    pub fn code(self) -> u64
-        ensures { result ≡ key_code self }
-    {
-        self.unit as u64 * 0x1_0000_0000 + self.number as u64
-    }
-
     pub fn within_limits(self) -> bool
         ensures { Decides result (KeyWithinLimits self) }
     {
@@ -60,25 +56,16 @@ impl Bid {
     pub fn key(&self) -> BlockKey
         ensures { result ≡ key_of self.now }
     {
-        BlockKey {
-            unit: self.unit,
-            number: self.number,
-        }
+        let Bid { unit, number, .. } = *self;
+        BlockKey { unit, number }
     }
 
     // Which of two bids of one price comes first.
     pub fn wins_tie(&self, other: &Bid) -> bool
         ensures { result ≡ lex (at_one_price self.now) (at_one_price other.now) }
     {
-        if self.stamp != other.stamp {
-            self.stamp < other.stamp
-        } else if self.volume != other.volume {
-            self.volume < other.volume
-        } else if self.unit != other.unit {
-            self.unit < other.unit
-        } else {
-            self.number < other.number
-        }
+        let rank = |bid: &Bid| (bid.stamp, bid.volume, bid.unit, bid.number);
+        rank(self) < rank(other)
     }
 
     // Whether agent, unit, block number and stamp are within their limits.

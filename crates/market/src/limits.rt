@@ -21,19 +21,19 @@ pub const MAX_POSITION: i64 = 100_000_000_000_000;
 pub fn agent_within(agent: u32) -> bool
     ensures { Decides result (AgentWithinLimits agent) }
 {
-    1 <= agent && agent <= MAX_AGENT
+    (1..=MAX_AGENT).contains(&agent)
 }
 
 pub fn unit_within(unit: u32) -> bool
     ensures { Decides result (UnitWithinLimits unit) }
 {
-    1 <= unit && unit <= MAX_UNIT
+    (1..=MAX_UNIT).contains(&unit)
 }
 
 pub fn number_within(number: u32) -> bool
     ensures { Decides result (NumberWithinLimits number) }
 {
-    1 <= number && number <= MAX_NUMBER
+    (1..=MAX_NUMBER).contains(&number)
 }
 
 pub fn stamp_within(stamp: u32) -> bool
@@ -45,17 +45,17 @@ pub fn stamp_within(stamp: u32) -> bool
 pub fn price_within(price: i32) -> bool
     ensures { Decides result (PriceWithinLimits price) }
 {
-    MIN_PRICE <= price && price <= MAX_PRICE
+    (MIN_PRICE..=MAX_PRICE).contains(&price)
 }
 
 pub fn volume_within(volume: u32) -> bool
     ensures { Decides result (VolumeWithinLimits volume) }
 {
-    1 <= volume && volume <= MAX_VOLUME
+    (1..=MAX_VOLUME).contains(&volume)
 }
 
 pub fn position_within(position: i64) -> bool
     ensures { Decides result (PositionWithinLimits position) }
 {
-    -MAX_POSITION <= position && position <= MAX_POSITION
+    (-MAX_POSITION..=MAX_POSITION).contains(&position)
 }

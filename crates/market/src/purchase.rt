@@ -8,7 +8,7 @@ ghost use Rattle.std.proofs.Common.{rules};
 use crate::block::{Block, BlockKey};
 use table::record::Record;
 
-#[derive(Clone, Copy)]
+#[derive(Clone, Copy, PartialEq, Eq, Default)]
 pub struct Purchase {
     pub block: Block,
 }
@@ -41,11 +41,11 @@ impl Record for Purchase {
     }
 
     fn key_code(&self) -> u64 {
-        self.block.bid.key().code()
+        u64::from(self.block.bid.key())
     }
 
     fn same_key(a: BlockKey, b: BlockKey) -> bool {
-        a.same(b)
+        a == b
     }
 
     fn before(&self, other: &Purchase) -> bool {

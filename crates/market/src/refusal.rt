@@ -1,11 +1,12 @@
 // The fifteen causes of a refusal, in the order in which they are checked (docs/REFUSALS.md).
 ghost use Rattle.std.specs.Prelude.{◌≡◌, Some};
-ghost use Rattle.market.specs.Refusals.{refusal_number};
+ghost use Rattle.market.specs.Refusals.{refusal_number, unplaced};
 ghost use Rattle.market.specs.Answers.{refusal_text};
 
 use std::fmt;
+use table::fault::Refusal as Unplaced;
 
-#[derive(Clone, Copy)]
+#[derive(Clone, Copy, PartialEq, Eq)]
 pub enum Refusal {
     TableSize,
     TableDisturbed,
@@ -24,12 +25,12 @@ pub enum Refusal {
     WrongState,
 }
 
-impl Refusal {
-    // The number by which a refusal is printed.
-    pub fn number(self) -> u8
-        ensures { result ≡ refusal_number self }
-    {
-        match self {
+// The number by which a refusal is printed.
+impl From<Refusal> for u8 {
+    ghost from_gives = { λ r number. number ≡ refusal_number r };
+
+    fn from(refusal: Refusal) -> u8 {
+        match refusal {
             Refusal::TableSize => 1,
             Refusal::TableDisturbed => 2,
             Refusal::OutsideLimits => 3,
@@ -49,11 +50,23 @@ impl Refusal {
     }
 }
 
+// Why a table does not take a row.
+impl From<Unplaced> for Refusal {
+    ghost from_gives = { λ why refusal. refusal ≡ unplaced why };
+
+    fn from(why: Unplaced) -> Refusal {
+        match why {
+            Unplaced::Taken => Refusal::KeyTaken,
+            Unplaced::Full => Refusal::TableFull,
+        }
+    }
+}
+
 impl fmt::Display for Refusal {
     ghost output = { λ r. Some (refusal_text r) };
 
     fn fmt<W: fmt::Write>(&self, f: &mut fmt::Formatter<W>) -> fmt::Result {
-        let number = self.number();
+        let number = u8::from(*self);
         write!(f, "(no {number})")
     }
 }

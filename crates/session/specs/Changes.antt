@@ -5,7 +5,7 @@ use Rattle.market.specs.declared.purchase.Purchase.{Purchase}
 use Rattle.market.specs.declared.refusal.Refusal.{Refusal}
 use Rattle.market.specs.declared.sale.Sale.{Sale}
 use Rattle.session.specs.Tables.{Blocks, Counted, Kind, Stands, ZoneTables, account_kind, lent, new_account, put_in, taken_out}
-use Rattle.session.specs.declared.capacities.Capacities.{Capacities}
+use Rattle.market.specs.declared.capacities.Capacities.{Capacities}
 use Rattle.session.specs.declared.ledger.Ledger.{Ledger}
 use Rattle.session.specs.declared.session.Session.{Session}
 use Rattle.session.specs.declared.session.ZoneCounts.{ZoneCounts}

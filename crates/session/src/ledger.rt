@@ -5,9 +5,9 @@ ghost use Rattle.session.specs.Causes.{admit_causes, begin_causes};
 ghost use Rattle.session.specs.Changes.{Admits, BegunWith, Leaves, new_ledger};
 ghost use Rattle.session.specs.Tables.{lent};
 
-use crate::capacities::Capacities;
 use crate::rows::{fits, in_order, put};
 use market::account::Account;
+use market::capacities::Capacities;
 use market::limits::agent_within;
 use market::refusal::Refusal;
 
@@ -76,9 +76,7 @@ impl Ledger {
         if number > MAX_SESSION || number <= self.last_session {
             return Err(Refusal::SessionNumber);
         }
-        let Some(capacities) = Capacities::of(forward, backward) else {
-            return Err(Refusal::CapacityLimit);
-        };
+        let capacities = Capacities::new(forward, backward)?;
         let ledger = Ledger {
             accounts: self.accounts,
             last_session: number,

@@ -2,7 +2,6 @@
 // (docs/MARKET.md, docs/REFUSALS.md).
 #![tactic(auto)]
 
-pub mod capacities;
 pub mod counted;
 pub mod ledger;
 pub mod report;

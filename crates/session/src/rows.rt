@@ -6,7 +6,6 @@ ghost use Rattle.session.specs.Tables.{Fits, InOrder, Stands, kind, lent, put_in
 ghost use Rattle.session.specs.Changes.{Becomes, Found, Leaves};
 
 use market::refusal::Refusal;
-use table::fault::Refusal as Unplaced;
 use table::record::Record;
 use table::table::Table;
 
@@ -40,11 +39,8 @@ pub(crate) fn put<R: Record>(rows: &mut [R], count: usize, row: R) -> Result<usi
     ensures after { Leaves rows.old (Becomes (put_in (kind R.order R.limits R.most) row (lent rows.old count))) result rows.new }
 {
     let mut table = Table::new(rows, count);
-    match table.insert(row) {
-        Ok(()) => Ok(table.count),
-        Err(Unplaced::Taken) => Err(Refusal::KeyTaken),
-        Err(Unplaced::Full) => Err(Refusal::TableFull),
-    }
+    table.insert(row)?;
+    Ok(table.count)
 }
 
 // Takes out the row with the key, if a counted row has it; answers the new count. The count is within the slice.

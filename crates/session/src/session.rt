@@ -6,10 +6,10 @@ ghost use Rattle.session.specs.Causes.{BlocksFit, BlocksInOrder, ZoneFits, ZoneI
 ghost use Rattle.session.specs.Changes.{Becomes, Leaves, Passed, SessionBecomes, ZoneBecomes, empty_session};
 ghost use Rattle.session.specs.Tables.{Fits, account_kind, blocks_of, entered_in, in_zone, kind, lent, put_in, taken_out, withdrawn_in, zone_at, zone_tables};
 
-use crate::capacities::Capacities;
 use crate::rows::{fits, in_order, put, stands, take_out};
 use market::account::Account;
 use market::block::{Bid, Block, BlockKey};
+use market::capacities::Capacities;
 use market::purchase::Purchase;
 use market::refusal::Refusal;
 use market::sale::Sale;
@@ -33,7 +33,10 @@ pub struct Session {
 fn zone_of(number: u32) -> Option<Zone>
     ensures { result ≡ zone_at number }
 {
-    Zone::of(number)
+    match Zone::try_from(number) {
+        Ok(zone) => Some(zone),
+        Err(_) => None,
+    }
 }
 
 // Checks the table that a row is to be put into, and the accounts.

@@ -1,7 +1,10 @@
 // What the interconnector can carry in a session.
-ghost use Rattle.std.specs.Prelude.{◌≡◌, ◌≤◌, MatchOption};
+ghost use Rattle.std.specs.Prelude.{◌≡◌, ◌≤◌, MatchResult};
+ghost use Rattle.market.specs.declared.refusal.Refusal.TheVariants.{CapacityLimit};
 
-const MAX_CAPACITY: u32 = 30_000_000;
+use crate::refusal::Refusal;
+
+pub const MAX_CAPACITY: u32 = 30_000_000;
 
 // In tenths of a MWh, from zone 1 to zone 2 and from zone 2 to zone 1.
 #[derive(Clone, Copy)]
@@ -12,14 +15,13 @@ pub struct Capacities {
 }
 
 impl Capacities {
-    pub fn of(forward: u32, backward: u32) -> Option<Capacities>
-        ensures { MatchOption result ((forward ≤ 30000000) × (backward ≤ 30000000) → ⊥) (λ c. (c.forward ≡ forward) × (c.backward ≡ backward)) }
+    pub fn new(forward: u32, backward: u32) -> Result<Capacities, Refusal>
+        ensures { MatchResult result (λ c. (c.forward ≡ forward) × (c.backward ≡ backward)) (λ why. (why ≡ CapacityLimit) × ((forward ≤ 30000000) × (backward ≤ 30000000) → ⊥)) }
     {
-        if forward <= MAX_CAPACITY && backward <= MAX_CAPACITY {
-            Some(Capacities { forward, backward })
-        } else {
-            None
+        if forward > MAX_CAPACITY || backward > MAX_CAPACITY {
+            return Err(Refusal::CapacityLimit);
         }
+        Ok(Capacities { forward, backward })
     }
 
     pub fn forward(self) -> u32
