@@ -25,7 +25,7 @@ pub struct Engine<P, S> {
 }
 
 // What a clearing answers: the price of each zone, the flow from zone 1 to zone 2, and the surplus.
-#[derive(Clone, Copy)]
+#[derive(Clone, Copy, PartialEq, Eq)]
 pub struct Clearing {
     pub price_one: i32,
     pub price_two: i32,

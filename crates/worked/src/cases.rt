@@ -1,18 +1,11 @@
 // The worked results that need no call file, as data: the cases that the definitions are proved to give, by the same names.
-use market::zone::Side;
-
-// The price rule and the sharing rule of a case.
-#[derive(Clone, Copy)]
-pub enum Rules {
-    LowEndByPrecedence,
-    LowEndInProportion,
-    MidpointByPrecedence,
-}
+use auction::engine::Clearing;
+use market::zone::{Side, Zone};
 
 // A block of volume `volume` at `price`, of which `matched` is matched.
 #[derive(Clone, Copy)]
 pub struct Lot {
-    pub zone: u32,
+    pub zone: Zone,
     pub side: Side,
     pub unit: u32,
     pub price: i32,
@@ -20,23 +13,21 @@ pub struct Lot {
     pub matched: u32,
 }
 
+// Blocks, capacities, and what clearing them gives.
 #[derive(Clone, Copy)]
 pub struct Case {
     pub name: &'static str,
-    pub rules: Rules,
     pub forward: u32,
     pub backward: u32,
-    pub price_one: i32,
-    pub price_two: i32,
-    pub flow: i64,
-    pub surplus: i64,
+    pub clearing: Clearing,
+    pub lots: &'static [Lot],
 }
 
-static EMPTY_MARKET: [Lot; 0] = [];
+const EMPTY_MARKET: &[Lot] = &[];
 
-static MEETING_PRICE: [Lot; 2] = [
+const MEETING_PRICE: &[Lot] = &[
     Lot {
-        zone: 1,
+        zone: Zone::One,
         side: Side::Sale,
         unit: 1,
         price: 3000,
@@ -44,7 +35,7 @@ static MEETING_PRICE: [Lot; 2] = [
         matched: 10,
     },
     Lot {
-        zone: 1,
+        zone: Zone::One,
         side: Side::Purchase,
         unit: 1,
         price: 3000,
@@ -53,9 +44,9 @@ static MEETING_PRICE: [Lot; 2] = [
     },
 ];
 
-static ONE_CENT_APART: [Lot; 2] = [
+const ONE_CENT_APART: &[Lot] = &[
     Lot {
-        zone: 1,
+        zone: Zone::One,
         side: Side::Sale,
         unit: 1,
         price: 3001,
@@ -63,7 +54,7 @@ static ONE_CENT_APART: [Lot; 2] = [
         matched: 0,
     },
     Lot {
-        zone: 1,
+        zone: Zone::One,
         side: Side::Purchase,
         unit: 1,
         price: 3000,
@@ -72,9 +63,9 @@ static ONE_CENT_APART: [Lot; 2] = [
     },
 ];
 
-static UNCONGESTED: [Lot; 5] = [
+const UNCONGESTED: &[Lot] = &[
     Lot {
-        zone: 1,
+        zone: Zone::One,
         side: Side::Sale,
         unit: 1,
         price: 2000,
@@ -82,7 +73,7 @@ static UNCONGESTED: [Lot; 5] = [
         matched: 100,
     },
     Lot {
-        zone: 1,
+        zone: Zone::One,
         side: Side::Sale,
         unit: 2,
         price: 4000,
@@ -90,7 +81,7 @@ static UNCONGESTED: [Lot; 5] = [
         matched: 60,
     },
     Lot {
-        zone: 1,
+        zone: Zone::One,
         side: Side::Purchase,
         unit: 1,
         price: 6000,
@@ -98,7 +89,7 @@ static UNCONGESTED: [Lot; 5] = [
         matched: 60,
     },
     Lot {
-        zone: 2,
+        zone: Zone::Two,
         side: Side::Sale,
         unit: 1,
         price: 5000,
@@ -106,7 +97,7 @@ static UNCONGESTED: [Lot; 5] = [
         matched: 0,
     },
     Lot {
-        zone: 2,
+        zone: Zone::Two,
         side: Side::Purchase,
         unit: 1,
         price: 7000,
@@ -115,9 +106,9 @@ static UNCONGESTED: [Lot; 5] = [
     },
 ];
 
-static ONE_TENTH_SHORT: [Lot; 5] = [
+const ONE_TENTH_SHORT: &[Lot] = &[
     Lot {
-        zone: 1,
+        zone: Zone::One,
         side: Side::Sale,
         unit: 1,
         price: 2000,
@@ -125,7 +116,7 @@ static ONE_TENTH_SHORT: [Lot; 5] = [
         matched: 100,
     },
     Lot {
-        zone: 1,
+        zone: Zone::One,
         side: Side::Sale,
         unit: 2,
         price: 4000,
@@ -133,7 +124,7 @@ static ONE_TENTH_SHORT: [Lot; 5] = [
         matched: 59,
     },
     Lot {
-        zone: 1,
+        zone: Zone::One,
         side: Side::Purchase,
         unit: 1,
         price: 6000,
@@ -141,7 +132,7 @@ static ONE_TENTH_SHORT: [Lot; 5] = [
         matched: 60,
     },
     Lot {
-        zone: 2,
+        zone: Zone::Two,
         side: Side::Sale,
         unit: 1,
         price: 5000,
@@ -149,7 +140,7 @@ static ONE_TENTH_SHORT: [Lot; 5] = [
         matched: 1,
     },
     Lot {
-        zone: 2,
+        zone: Zone::Two,
         side: Side::Purchase,
         unit: 1,
         price: 7000,
@@ -158,9 +149,9 @@ static ONE_TENTH_SHORT: [Lot; 5] = [
     },
 ];
 
-static CONGESTED: [Lot; 5] = [
+const CONGESTED: &[Lot] = &[
     Lot {
-        zone: 1,
+        zone: Zone::One,
         side: Side::Sale,
         unit: 1,
         price: 2000,
@@ -168,7 +159,7 @@ static CONGESTED: [Lot; 5] = [
         matched: 90,
     },
     Lot {
-        zone: 1,
+        zone: Zone::One,
         side: Side::Sale,
         unit: 2,
         price: 4000,
@@ -176,7 +167,7 @@ static CONGESTED: [Lot; 5] = [
         matched: 0,
     },
     Lot {
-        zone: 1,
+        zone: Zone::One,
         side: Side::Purchase,
         unit: 1,
         price: 6000,
@@ -184,7 +175,7 @@ static CONGESTED: [Lot; 5] = [
         matched: 60,
     },
     Lot {
-        zone: 2,
+        zone: Zone::Two,
         side: Side::Sale,
         unit: 1,
         price: 5000,
@@ -192,7 +183,7 @@ static CONGESTED: [Lot; 5] = [
         matched: 50,
     },
     Lot {
-        zone: 2,
+        zone: Zone::Two,
         side: Side::Purchase,
         unit: 1,
         price: 7000,
@@ -201,9 +192,9 @@ static CONGESTED: [Lot; 5] = [
     },
 ];
 
-static SHARED_TIE: [Lot; 4] = [
+const SHARED_TIE: &[Lot] = &[
     Lot {
-        zone: 1,
+        zone: Zone::One,
         side: Side::Sale,
         unit: 1,
         price: 10,
@@ -211,7 +202,7 @@ static SHARED_TIE: [Lot; 4] = [
         matched: 15,
     },
     Lot {
-        zone: 1,
+        zone: Zone::One,
         side: Side::Sale,
         unit: 2,
         price: 10,
@@ -219,7 +210,7 @@ static SHARED_TIE: [Lot; 4] = [
         matched: 15,
     },
     Lot {
-        zone: 1,
+        zone: Zone::One,
         side: Side::Sale,
         unit: 3,
         price: 10,
@@ -227,7 +218,7 @@ static SHARED_TIE: [Lot; 4] = [
         matched: 20,
     },
     Lot {
-        zone: 1,
+        zone: Zone::One,
         side: Side::Purchase,
         unit: 1,
         price: 20,
@@ -236,9 +227,9 @@ static SHARED_TIE: [Lot; 4] = [
     },
 ];
 
-static TIE_IN_PRECEDENCE: [Lot; 4] = [
+const TIE_IN_PRECEDENCE: &[Lot] = &[
     Lot {
-        zone: 1,
+        zone: Zone::One,
         side: Side::Sale,
         unit: 1,
         price: 10,
@@ -246,7 +237,7 @@ static TIE_IN_PRECEDENCE: [Lot; 4] = [
         matched: 30,
     },
     Lot {
-        zone: 1,
+        zone: Zone::One,
         side: Side::Sale,
         unit: 2,
         price: 10,
@@ -254,7 +245,7 @@ static TIE_IN_PRECEDENCE: [Lot; 4] = [
         matched: 20,
     },
     Lot {
-        zone: 1,
+        zone: Zone::One,
         side: Side::Sale,
         unit: 3,
         price: 10,
@@ -262,7 +253,7 @@ static TIE_IN_PRECEDENCE: [Lot; 4] = [
         matched: 0,
     },
     Lot {
-        zone: 1,
+        zone: Zone::One,
         side: Side::Purchase,
         unit: 1,
         price: 20,
@@ -271,9 +262,9 @@ static TIE_IN_PRECEDENCE: [Lot; 4] = [
     },
 ];
 
-static TIE_WITH_REMAINDER: [Lot; 4] = [
+const TIE_WITH_REMAINDER: &[Lot] = &[
     Lot {
-        zone: 1,
+        zone: Zone::One,
         side: Side::Sale,
         unit: 1,
         price: 10,
@@ -281,7 +272,7 @@ static TIE_WITH_REMAINDER: [Lot; 4] = [
         matched: 0,
     },
     Lot {
-        zone: 1,
+        zone: Zone::One,
         side: Side::Sale,
         unit: 2,
         price: 10,
@@ -289,7 +280,7 @@ static TIE_WITH_REMAINDER: [Lot; 4] = [
         matched: 1,
     },
     Lot {
-        zone: 1,
+        zone: Zone::One,
         side: Side::Sale,
         unit: 3,
         price: 10,
@@ -297,7 +288,7 @@ static TIE_WITH_REMAINDER: [Lot; 4] = [
         matched: 1,
     },
     Lot {
-        zone: 1,
+        zone: Zone::One,
         side: Side::Purchase,
         unit: 1,
         price: 20,
@@ -306,9 +297,9 @@ static TIE_WITH_REMAINDER: [Lot; 4] = [
     },
 ];
 
-static TIE_BEHIND_TENTHS: [Lot; 5] = [
+const TIE_BEHIND_TENTHS: &[Lot] = &[
     Lot {
-        zone: 1,
+        zone: Zone::One,
         side: Side::Sale,
         unit: 1,
         price: 10,
@@ -316,7 +307,7 @@ static TIE_BEHIND_TENTHS: [Lot; 5] = [
         matched: 4,
     },
     Lot {
-        zone: 1,
+        zone: Zone::One,
         side: Side::Sale,
         unit: 2,
         price: 90,
@@ -324,7 +315,7 @@ static TIE_BEHIND_TENTHS: [Lot; 5] = [
         matched: 0,
     },
     Lot {
-        zone: 1,
+        zone: Zone::One,
         side: Side::Purchase,
         unit: 1,
         price: 50,
@@ -332,7 +323,7 @@ static TIE_BEHIND_TENTHS: [Lot; 5] = [
         matched: 1,
     },
     Lot {
-        zone: 1,
+        zone: Zone::One,
         side: Side::Purchase,
         unit: 2,
         price: 50,
@@ -340,7 +331,7 @@ static TIE_BEHIND_TENTHS: [Lot; 5] = [
         matched: 1,
     },
     Lot {
-        zone: 2,
+        zone: Zone::Two,
         side: Side::Purchase,
         unit: 1,
         price: 100,
@@ -349,9 +340,9 @@ static TIE_BEHIND_TENTHS: [Lot; 5] = [
     },
 ];
 
-static PURCHASE_AT_LIMIT: [Lot; 5] = [
+const PURCHASE_AT_LIMIT: &[Lot] = &[
     Lot {
-        zone: 1,
+        zone: Zone::One,
         side: Side::Sale,
         unit: 1,
         price: 10,
@@ -359,7 +350,7 @@ static PURCHASE_AT_LIMIT: [Lot; 5] = [
         matched: 2,
     },
     Lot {
-        zone: 1,
+        zone: Zone::One,
         side: Side::Sale,
         unit: 2,
         price: 300000,
@@ -367,7 +358,7 @@ static PURCHASE_AT_LIMIT: [Lot; 5] = [
         matched: 3,
     },
     Lot {
-        zone: 1,
+        zone: Zone::One,
         side: Side::Purchase,
         unit: 1,
         price: 300000,
@@ -375,7 +366,7 @@ static PURCHASE_AT_LIMIT: [Lot; 5] = [
         matched: 3,
     },
     Lot {
-        zone: 2,
+        zone: Zone::Two,
         side: Side::Purchase,
         unit: 1,
         price: 300000,
@@ -383,7 +374,7 @@ static PURCHASE_AT_LIMIT: [Lot; 5] = [
         matched: 0,
     },
     Lot {
-        zone: 2,
+        zone: Zone::Two,
         side: Side::Purchase,
         unit: 2,
         price: 300000,
@@ -392,9 +383,9 @@ static PURCHASE_AT_LIMIT: [Lot; 5] = [
     },
 ];
 
-static SALE_AT_LIMIT: [Lot; 5] = [
+const SALE_AT_LIMIT: &[Lot] = &[
     Lot {
-        zone: 1,
+        zone: Zone::One,
         side: Side::Sale,
         unit: 1,
         price: -50000,
@@ -402,7 +393,7 @@ static SALE_AT_LIMIT: [Lot; 5] = [
         matched: 5,
     },
     Lot {
-        zone: 1,
+        zone: Zone::One,
         side: Side::Sale,
         unit: 2,
         price: 80,
@@ -410,7 +401,7 @@ static SALE_AT_LIMIT: [Lot; 5] = [
         matched: 2,
     },
     Lot {
-        zone: 1,
+        zone: Zone::One,
         side: Side::Purchase,
         unit: 1,
         price: 100,
@@ -418,7 +409,7 @@ static SALE_AT_LIMIT: [Lot; 5] = [
         matched: 9,
     },
     Lot {
-        zone: 2,
+        zone: Zone::Two,
         side: Side::Sale,
         unit: 1,
         price: -50000,
@@ -426,7 +417,7 @@ static SALE_AT_LIMIT: [Lot; 5] = [
         matched: 3,
     },
     Lot {
-        zone: 2,
+        zone: Zone::Two,
         side: Side::Purchase,
         unit: 1,
         price: 50,
@@ -435,9 +426,9 @@ static SALE_AT_LIMIT: [Lot; 5] = [
     },
 ];
 
-static TIE_ACROSS_ZONES: [Lot; 4] = [
+const TIE_ACROSS_ZONES: &[Lot] = &[
     Lot {
-        zone: 1,
+        zone: Zone::One,
         side: Side::Sale,
         unit: 1,
         price: 10,
@@ -445,7 +436,7 @@ static TIE_ACROSS_ZONES: [Lot; 4] = [
         matched: 2,
     },
     Lot {
-        zone: 1,
+        zone: Zone::One,
         side: Side::Purchase,
         unit: 1,
         price: 20,
@@ -453,7 +444,7 @@ static TIE_ACROSS_ZONES: [Lot; 4] = [
         matched: 1,
     },
     Lot {
-        zone: 2,
+        zone: Zone::Two,
         side: Side::Sale,
         unit: 1,
         price: 10,
@@ -461,7 +452,7 @@ static TIE_ACROSS_ZONES: [Lot; 4] = [
         matched: 2,
     },
     Lot {
-        zone: 2,
+        zone: Zone::Two,
         side: Side::Purchase,
         unit: 1,
         price: 20,
@@ -470,9 +461,9 @@ static TIE_ACROSS_ZONES: [Lot; 4] = [
     },
 ];
 
-static TIE_ACROSS_ZONES_IN_PRECEDENCE: [Lot; 4] = [
+const TIE_ACROSS_ZONES_IN_PRECEDENCE: &[Lot] = &[
     Lot {
-        zone: 1,
+        zone: Zone::One,
         side: Side::Sale,
         unit: 1,
         price: 10,
@@ -480,7 +471,7 @@ static TIE_ACROSS_ZONES_IN_PRECEDENCE: [Lot; 4] = [
         matched: 3,
     },
     Lot {
-        zone: 1,
+        zone: Zone::One,
         side: Side::Purchase,
         unit: 1,
         price: 20,
@@ -488,7 +479,7 @@ static TIE_ACROSS_ZONES_IN_PRECEDENCE: [Lot; 4] = [
         matched: 1,
     },
     Lot {
-        zone: 2,
+        zone: Zone::Two,
         side: Side::Sale,
         unit: 1,
         price: 10,
@@ -496,7 +487,7 @@ static TIE_ACROSS_ZONES_IN_PRECEDENCE: [Lot; 4] = [
         matched: 1,
     },
     Lot {
-        zone: 2,
+        zone: Zone::Two,
         side: Side::Purchase,
         unit: 1,
         price: 20,
@@ -505,9 +496,9 @@ static TIE_ACROSS_ZONES_IN_PRECEDENCE: [Lot; 4] = [
     },
 ];
 
-static NO_LINE: [Lot; 4] = [
+const NO_LINE: &[Lot] = &[
     Lot {
-        zone: 1,
+        zone: Zone::One,
         side: Side::Sale,
         unit: 1,
         price: 10,
@@ -515,7 +506,7 @@ static NO_LINE: [Lot; 4] = [
         matched: 1,
     },
     Lot {
-        zone: 1,
+        zone: Zone::One,
         side: Side::Purchase,
         unit: 1,
         price: 20,
@@ -523,7 +514,7 @@ static NO_LINE: [Lot; 4] = [
         matched: 1,
     },
     Lot {
-        zone: 2,
+        zone: Zone::Two,
         side: Side::Sale,
         unit: 1,
         price: 5,
@@ -531,7 +522,7 @@ static NO_LINE: [Lot; 4] = [
         matched: 3,
     },
     Lot {
-        zone: 2,
+        zone: Zone::Two,
         side: Side::Purchase,
         unit: 1,
         price: 40,
@@ -540,9 +531,9 @@ static NO_LINE: [Lot; 4] = [
     },
 ];
 
-static ONE_SIDE_EMPTY: [Lot; 2] = [
+const ONE_SIDE_EMPTY: &[Lot] = &[
     Lot {
-        zone: 1,
+        zone: Zone::One,
         side: Side::Sale,
         unit: 1,
         price: 10,
@@ -550,7 +541,7 @@ static ONE_SIDE_EMPTY: [Lot; 2] = [
         matched: 1,
     },
     Lot {
-        zone: 2,
+        zone: Zone::Two,
         side: Side::Purchase,
         unit: 1,
         price: 40,
@@ -559,9 +550,9 @@ static ONE_SIDE_EMPTY: [Lot; 2] = [
     },
 ];
 
-static FLOW_BACK: [Lot; 5] = [
+const FLOW_BACK: &[Lot] = &[
     Lot {
-        zone: 1,
+        zone: Zone::One,
         side: Side::Sale,
         unit: 1,
         price: 90,
@@ -569,7 +560,7 @@ static FLOW_BACK: [Lot; 5] = [
         matched: 4,
     },
     Lot {
-        zone: 1,
+        zone: Zone::One,
         side: Side::Purchase,
         unit: 1,
         price: 100,
@@ -577,7 +568,7 @@ static FLOW_BACK: [Lot; 5] = [
         matched: 6,
     },
     Lot {
-        zone: 2,
+        zone: Zone::Two,
         side: Side::Sale,
         unit: 1,
         price: 10,
@@ -585,7 +576,7 @@ static FLOW_BACK: [Lot; 5] = [
         matched: 3,
     },
     Lot {
-        zone: 2,
+        zone: Zone::Two,
         side: Side::Sale,
         unit: 2,
         price: 95,
@@ -593,7 +584,7 @@ static FLOW_BACK: [Lot; 5] = [
         matched: 0,
     },
     Lot {
-        zone: 2,
+        zone: Zone::Two,
         side: Side::Purchase,
         unit: 1,
         price: 50,
@@ -602,9 +593,9 @@ static FLOW_BACK: [Lot; 5] = [
     },
 ];
 
-static APART_IN_BOTH_ZONES: [Lot; 4] = [
+const APART_IN_BOTH_ZONES: &[Lot] = &[
     Lot {
-        zone: 1,
+        zone: Zone::One,
         side: Side::Sale,
         unit: 1,
         price: 30,
@@ -612,7 +603,7 @@ static APART_IN_BOTH_ZONES: [Lot; 4] = [
         matched: 0,
     },
     Lot {
-        zone: 1,
+        zone: Zone::One,
         side: Side::Purchase,
         unit: 1,
         price: 20,
@@ -620,7 +611,7 @@ static APART_IN_BOTH_ZONES: [Lot; 4] = [
         matched: 0,
     },
     Lot {
-        zone: 2,
+        zone: Zone::Two,
         side: Side::Sale,
         unit: 1,
         price: 25,
@@ -628,7 +619,7 @@ static APART_IN_BOTH_ZONES: [Lot; 4] = [
         matched: 0,
     },
     Lot {
-        zone: 2,
+        zone: Zone::Two,
         side: Side::Purchase,
         unit: 1,
         price: 10,
@@ -637,209 +628,228 @@ static APART_IN_BOTH_ZONES: [Lot; 4] = [
     },
 ];
 
-pub static CASES: [Case; 18] = [
+// By the low end and by precedence.
+pub static BY_PRECEDENCE_CASES: [Case; 11] = [
     Case {
         name: "empty market",
-        rules: Rules::LowEndByPrecedence,
         forward: 0,
         backward: 0,
-        price_one: -50000,
-        price_two: -50000,
-        flow: 0,
-        surplus: 0,
+        clearing: Clearing {
+            price_one: -50000,
+            price_two: -50000,
+            flow: 0,
+            surplus: 0,
+        },
+        lots: EMPTY_MARKET,
     },
     Case {
         name: "meeting price",
-        rules: Rules::LowEndByPrecedence,
         forward: 0,
         backward: 0,
-        price_one: 3000,
-        price_two: 3000,
-        flow: 0,
-        surplus: 0,
+        clearing: Clearing {
+            price_one: 3000,
+            price_two: 3000,
+            flow: 0,
+            surplus: 0,
+        },
+        lots: MEETING_PRICE,
     },
     Case {
         name: "one cent apart",
-        rules: Rules::LowEndByPrecedence,
         forward: 0,
         backward: 0,
-        price_one: 3000,
-        price_two: 3000,
-        flow: 0,
-        surplus: 0,
+        clearing: Clearing {
+            price_one: 3000,
+            price_two: 3000,
+            flow: 0,
+            surplus: 0,
+        },
+        lots: ONE_CENT_APART,
     },
     Case {
         name: "uncongested",
-        rules: Rules::LowEndByPrecedence,
         forward: 100,
         backward: 0,
-        price_one: 4000,
-        price_two: 4000,
-        flow: 100,
-        surplus: 620000,
+        clearing: Clearing {
+            price_one: 4000,
+            price_two: 4000,
+            flow: 100,
+            surplus: 620000,
+        },
+        lots: UNCONGESTED,
     },
     Case {
         name: "one tenth short",
-        rules: Rules::LowEndByPrecedence,
         forward: 99,
         backward: 0,
-        price_one: 4000,
-        price_two: 5000,
-        flow: 99,
-        surplus: 619000,
+        clearing: Clearing {
+            price_one: 4000,
+            price_two: 5000,
+            flow: 99,
+            surplus: 619000,
+        },
+        lots: ONE_TENTH_SHORT,
     },
     Case {
         name: "congested",
-        rules: Rules::LowEndByPrecedence,
         forward: 30,
         backward: 0,
-        price_one: 2000,
-        price_two: 7000,
-        flow: 30,
-        surplus: 490000,
-    },
-    Case {
-        name: "shared tie",
-        rules: Rules::LowEndInProportion,
-        forward: 0,
-        backward: 0,
-        price_one: 10,
-        price_two: 10,
-        flow: 0,
-        surplus: 500,
+        clearing: Clearing {
+            price_one: 2000,
+            price_two: 7000,
+            flow: 30,
+            surplus: 490000,
+        },
+        lots: CONGESTED,
     },
     Case {
         name: "tie in precedence",
-        rules: Rules::LowEndByPrecedence,
         forward: 0,
         backward: 0,
-        price_one: 10,
-        price_two: 10,
-        flow: 0,
-        surplus: 500,
-    },
-    Case {
-        name: "tie with remainder",
-        rules: Rules::LowEndInProportion,
-        forward: 0,
-        backward: 0,
-        price_one: 10,
-        price_two: 10,
-        flow: 0,
-        surplus: 20,
-    },
-    Case {
-        name: "tie behind tenths",
-        rules: Rules::LowEndInProportion,
-        forward: 2,
-        backward: 0,
-        price_one: 50,
-        price_two: 100,
-        flow: 2,
-        surplus: 260,
-    },
-    Case {
-        name: "purchase at limit",
-        rules: Rules::LowEndInProportion,
-        forward: 2,
-        backward: 0,
-        price_one: 300000,
-        price_two: 300000,
-        flow: 2,
-        surplus: 599980,
-    },
-    Case {
-        name: "sale at limit",
-        rules: Rules::LowEndInProportion,
-        forward: 0,
-        backward: 2,
-        price_one: 80,
-        price_two: -50000,
-        flow: -2,
-        surplus: 400790,
-    },
-    Case {
-        name: "tie across zones",
-        rules: Rules::LowEndInProportion,
-        forward: 9,
-        backward: 9,
-        price_one: 10,
-        price_two: 10,
-        flow: 1,
-        surplus: 40,
+        clearing: Clearing {
+            price_one: 10,
+            price_two: 10,
+            flow: 0,
+            surplus: 500,
+        },
+        lots: TIE_IN_PRECEDENCE,
     },
     Case {
         name: "tie across zones in precedence",
-        rules: Rules::LowEndByPrecedence,
         forward: 9,
         backward: 9,
-        price_one: 10,
-        price_two: 10,
-        flow: 2,
-        surplus: 40,
+        clearing: Clearing {
+            price_one: 10,
+            price_two: 10,
+            flow: 2,
+            surplus: 40,
+        },
+        lots: TIE_ACROSS_ZONES_IN_PRECEDENCE,
     },
     Case {
         name: "no line",
-        rules: Rules::LowEndByPrecedence,
         forward: 0,
         backward: 0,
-        price_one: 10,
-        price_two: 40,
-        flow: 0,
-        surplus: 115,
+        clearing: Clearing {
+            price_one: 10,
+            price_two: 40,
+            flow: 0,
+            surplus: 115,
+        },
+        lots: NO_LINE,
     },
     Case {
         name: "one side empty",
-        rules: Rules::LowEndByPrecedence,
         forward: 1,
         backward: 0,
-        price_one: 10,
-        price_two: 40,
-        flow: 1,
-        surplus: 30,
+        clearing: Clearing {
+            price_one: 10,
+            price_two: 40,
+            flow: 1,
+            surplus: 30,
+        },
+        lots: ONE_SIDE_EMPTY,
     },
     Case {
         name: "flow back",
-        rules: Rules::LowEndByPrecedence,
         forward: 0,
         backward: 2,
-        price_one: 90,
-        price_two: 10,
-        flow: -2,
-        surplus: 260,
+        clearing: Clearing {
+            price_one: 90,
+            price_two: 10,
+            flow: -2,
+            surplus: 260,
+        },
+        lots: FLOW_BACK,
+    },
+];
+
+// By the low end and in proportion.
+pub static IN_PROPORTION_CASES: [Case; 6] = [
+    Case {
+        name: "shared tie",
+        forward: 0,
+        backward: 0,
+        clearing: Clearing {
+            price_one: 10,
+            price_two: 10,
+            flow: 0,
+            surplus: 500,
+        },
+        lots: SHARED_TIE,
     },
     Case {
-        name: "apart in both zones",
-        rules: Rules::MidpointByPrecedence,
-        forward: 5,
-        backward: 5,
+        name: "tie with remainder",
+        forward: 0,
+        backward: 0,
+        clearing: Clearing {
+            price_one: 10,
+            price_two: 10,
+            flow: 0,
+            surplus: 20,
+        },
+        lots: TIE_WITH_REMAINDER,
+    },
+    Case {
+        name: "tie behind tenths",
+        forward: 2,
+        backward: 0,
+        clearing: Clearing {
+            price_one: 50,
+            price_two: 100,
+            flow: 2,
+            surplus: 260,
+        },
+        lots: TIE_BEHIND_TENTHS,
+    },
+    Case {
+        name: "purchase at limit",
+        forward: 2,
+        backward: 0,
+        clearing: Clearing {
+            price_one: 300000,
+            price_two: 300000,
+            flow: 2,
+            surplus: 599980,
+        },
+        lots: PURCHASE_AT_LIMIT,
+    },
+    Case {
+        name: "sale at limit",
+        forward: 0,
+        backward: 2,
+        clearing: Clearing {
+            price_one: 80,
+            price_two: -50000,
+            flow: -2,
+            surplus: 400790,
+        },
+        lots: SALE_AT_LIMIT,
+    },
+    Case {
+        name: "tie across zones",
+        forward: 9,
+        backward: 9,
+        clearing: Clearing {
+            price_one: 10,
+            price_two: 10,
+            flow: 1,
+            surplus: 40,
+        },
+        lots: TIE_ACROSS_ZONES,
+    },
+];
+
+// By the midpoint and by precedence.
+pub static AT_MIDPOINT_CASES: [Case; 1] = [Case {
+    name: "apart in both zones",
+    forward: 5,
+    backward: 5,
+    clearing: Clearing {
         price_one: 22,
         price_two: 22,
         flow: 0,
         surplus: 0,
     },
-];
-
-// The blocks of each case, in the order of `CASES`.
-pub fn lots_of(case: usize) -> &'static [Lot] {
-    match case {
-        0 => &EMPTY_MARKET,
-        1 => &MEETING_PRICE,
-        2 => &ONE_CENT_APART,
-        3 => &UNCONGESTED,
-        4 => &ONE_TENTH_SHORT,
-        5 => &CONGESTED,
-        6 => &SHARED_TIE,
-        7 => &TIE_IN_PRECEDENCE,
-        8 => &TIE_WITH_REMAINDER,
-        9 => &TIE_BEHIND_TENTHS,
-        10 => &PURCHASE_AT_LIMIT,
-        11 => &SALE_AT_LIMIT,
-        12 => &TIE_ACROSS_ZONES,
-        13 => &TIE_ACROSS_ZONES_IN_PRECEDENCE,
-        14 => &NO_LINE,
-        15 => &ONE_SIDE_EMPTY,
-        16 => &FLOW_BACK,
-        _ => &APART_IN_BOTH_ZONES,
-    }
-}
+    lots: APART_IN_BOTH_ZONES,
+}];

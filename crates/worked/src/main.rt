@@ -7,18 +7,20 @@ ghost use Rattle.worked.specs.All.{AllWorked};
 mod cases;
 
 use auction::engine::{Clearing, Engine};
-use cases::{CASES, Case, Lot, Rules, lots_of};
+use cases::{AT_MIDPOINT_CASES, BY_PRECEDENCE_CASES, Case, IN_PROPORTION_CASES, Lot};
 use ladders::ladders::{Ladder, Ladders};
-use market::block::{Bid, Block};
+use market::block::{Bid, BlockKey};
 use market::purchase::Purchase;
 use market::refusal::Refusal;
+use market::row::BlockRow;
 use market::sale::Sale;
-use market::zone::Side;
+use market::zone::{Side, Zone};
 use period::clear_period;
 use rules::price::{LowEnd, Midpoint, PriceRule};
-use rules::sharing::{ByPrecedence, InProportion};
+use rules::sharing::{ByPrecedence, InProportion, SharingRule};
 use settlement::rounding::nearest_cent;
 use table::record::Record;
+use table::table::Table;
 
 const PLACES: usize = 256;
 
@@ -48,77 +50,80 @@ fn bid_of(lot: &Lot) -> Bid {
     }
 }
 
+// What is matched of the block with the key, if the table counts one.
+fn matched_in<R: BlockRow + Record<Key = BlockKey>>(
+    table: &Table<R>,
+    key: BlockKey,
+) -> Option<u32> {
+    let place = table.find(key)?;
+    Some(table.rows.get(place)?.block().matched)
+}
+
 // What is matched of a lot, once it was cleared.
-fn matched(ladder: &Ladder, lot: &Lot) -> Option<u32> {
+fn matched(ladders: &Ladders, lot: &Lot) -> Option<u32> {
+    let ladder = match lot.zone {
+        Zone::One => &ladders.one,
+        Zone::Two => &ladders.two,
+    };
     let key = bid_of(lot).key();
     match lot.side {
-        Side::Sale => {
-            let place = ladder.sales.find(key)?;
-            let rows = &*ladder.sales.rows;
-            Some(rows.get(place)?.block.matched)
-        }
-        Side::Purchase => {
-            let place = ladder.purchases.find(key)?;
-            let rows = &*ladder.purchases.rows;
-            Some(rows.get(place)?.block.matched)
-        }
+        Side::Sale => matched_in(&ladder.sales, key),
+        Side::Purchase => matched_in(&ladder.purchases, key),
     }
 }
 
-fn all_matched(ladders: &Ladders, lots: &[Lot]) -> bool {
+fn enter(lots: &[Lot], ladders: &mut Ladders) -> Result<(), Refusal> {
     for lot in lots {
-        let found = match lot.zone {
-            1 => matched(&ladders.one, lot),
-            _ => matched(&ladders.two, lot),
-        };
-        match found {
-            Some(volume) if volume == lot.matched => {}
-            _ => return false,
-        }
+        ladders.put(lot.zone, lot.side, bid_of(lot))?;
     }
-    true
+    Ok(())
 }
 
-fn clear(case: &Case, ladders: &mut Ladders) -> Result<Clearing, Refusal> {
-    match case.rules {
-        Rules::LowEndByPrecedence => clear_period(
-            &BY_PRECEDENCE,
-            ladders,
-            case.forward,
-            case.backward,
-        ),
-        Rules::LowEndInProportion => clear_period(
-            &IN_PROPORTION,
-            ladders,
-            case.forward,
-            case.backward,
-        ),
-        Rules::MidpointByPrecedence => clear_period(
-            &AT_MIDPOINT,
-            ladders,
-            case.forward,
-            case.backward,
-        ),
-    }
+// What the case's blocks clear to.
+fn clear<P: PriceRule, S: SharingRule>(
+    engine: &Engine<P, S>,
+    case: &Case,
+    ladders: &mut Ladders,
+) -> Result<Clearing, Refusal> {
+    enter(case.lots, ladders)?;
+    clear_period(engine, ladders, case.forward, case.backward)
 }
 
 // Whether the case comes out, from empty ladders.
-fn comes_out(case: &Case, lots: &[Lot], ladders: &mut Ladders) -> bool {
-    for lot in lots {
-        if ladders.enter(lot.zone, lot.side, bid_of(lot)).is_err() {
-            return false;
+fn comes_out<P: PriceRule, S: SharingRule>(
+    engine: &Engine<P, S>,
+    case: &Case,
+    ladders: &mut Ladders,
+) -> bool {
+    clear(engine, case, ladders) == Ok(case.clearing)
+        && case
+            .lots
+            .iter()
+            .all(|lot| matched(ladders, lot) == Some(lot.matched))
+}
+
+// Whether every case comes out; names those that do not.
+fn all_come_out<P: PriceRule, S: SharingRule>(
+    rt: &HostRuntime,
+    engine: &Engine<P, S>,
+    cases: &[Case],
+) -> anyhow::Result<bool> {
+    let heap = rt.alloc();
+    let mut all = true;
+    for case in cases {
+        let mut sales_one = vec![in heap; Sale::default(); PLACES]?;
+        let mut purchases_one = vec![in heap; Purchase::default(); PLACES]?;
+        let mut sales_two = vec![in heap; Sale::default(); PLACES]?;
+        let mut purchases_two = vec![in heap; Purchase::default(); PLACES]?;
+        let one = Ladder::new(&mut sales_one, &mut purchases_one);
+        let two = Ladder::new(&mut sales_two, &mut purchases_two);
+        let mut ladders = Ladders::new(one, two);
+        if !comes_out(engine, case, &mut ladders) {
+            all = false;
+            println!(rt; "(differs {})", case.name)?;
         }
     }
-    match clear(case, ladders) {
-        Ok(cleared) => {
-            cleared.price_one == case.price_one
-                && cleared.price_two == case.price_two
-                && cleared.flow == case.flow
-                && cleared.surplus == case.surplus
-                && all_matched(ladders, lots)
-        }
-        Err(_) => false,
-    }
+    Ok(all)
 }
 
 // The definitions give all of them.
@@ -137,31 +142,10 @@ fn numbers_come_out() -> bool {
 }
 
 fn main(rt: HostRuntime) -> anyhow::Result<()> {
-    let heap = rt.alloc();
-    let block = Block::unmatched(bid_of(&Lot {
-        zone: 1,
-        side: Side::Sale,
-        unit: 0,
-        price: 0,
-        volume: 0,
-        matched: 0,
-    }));
-    let mut all = definitions_agree() && numbers_come_out();
-    for (i, case) in CASES.iter().enumerate() {
-        let mut sales_one = vec![in heap; Sale { block }; PLACES]?;
-        let mut purchases_one = vec![in heap; Purchase { block }; PLACES]?;
-        let mut sales_two = vec![in heap; Sale { block }; PLACES]?;
-        let mut purchases_two = vec![in heap; Purchase { block }; PLACES]?;
-        let one = Ladder::new(&mut sales_one, &mut purchases_one);
-        let two = Ladder::new(&mut sales_two, &mut purchases_two);
-        let mut ladders = Ladders::new(one, two);
-        if !comes_out(case, lots_of(i), &mut ladders) {
-            all = false;
-            let name = case.name;
-            println!(rt; "(differs {name})")?;
-        }
-    }
-    if all {
+    let precedence = all_come_out(&rt, &BY_PRECEDENCE, &BY_PRECEDENCE_CASES)?;
+    let proportion = all_come_out(&rt, &IN_PROPORTION, &IN_PROPORTION_CASES)?;
+    let midpoint = all_come_out(&rt, &AT_MIDPOINT, &AT_MIDPOINT_CASES)?;
+    if definitions_agree() && numbers_come_out() && precedence && proportion && midpoint {
         println!(rt; "(worked results agree)")?;
     }
     Ok(())
