@@ -6,17 +6,6 @@ ghost use Rattle.table.specs.Rows.{Apart, Climbing, Rising, Sound, seat, rank};
 
 use crate::record::Record;
 
-// The counted rows: the first `count`, or all where there are fewer.
-pub(crate) fn counted<R>(rows: &[R], count: usize) -> &[R]
-    ensures { result.now ≡ take count rows.now }
-{
-    if count < rows.len() {
-        &rows[0..count]
-    } else {
-        rows
-    }
-}
-
 // The place of the first row with the key, or the length where there is none.
 pub(crate) fn seat_of<R: Record>(rows: &[R], key: R::Key) -> usize
     ensures { result ≡ seat R.order key rows.now }
