@@ -5,7 +5,7 @@ ghost use Rattle.table.specs.Edits.{Fitting, Judged};
 
 use crate::fault::Fault;
 use crate::record::Record;
-use crate::slices::{is_sound, rank_of, seat_of};
+use crate::slices::{is_sound, rank_of};
 
 #[derive(Clone, Copy)]
 pub struct View<'a, R> {
@@ -60,9 +60,7 @@ impl<'a, R: Record> View<'a, R> {
     pub fn find(&self, key: R::Key) -> Option<usize>
         ensures { result ≡ found R.order key (take self.now.count self.now.rows.now) }
     {
-        let rows = self.counted();
-        let i = seat_of(rows, key);
-        if i < rows.len() { Some(i) } else { None }
+        self.counted().iter().position(|row| row.key() == key)
     }
 
     // How many counted rows, from the first on, come before `row`.
