@@ -2,16 +2,9 @@
 ghost use Rattle.std.specs.Prelude.{◌≡◌, ◌+◌, ◌-◌, ◌<◌, ◌≤◌, false, ◌∷◌, ◌++◌, map, length, take, drop, Decides};
 ghost use Rattle.std.specs.List.{AllByRecursion};
 ghost use Rattle.table.specs.Codes.{Changing, Distinct, Sifted, spot};
-ghost use Rattle.table.specs.Rows.{Apart, Climbing, Rising, Sound, rank};
+ghost use Rattle.table.specs.Rows.{Apart, Climbing, Rising, Sound};
 
 use crate::record::Record;
-
-// How many rows, from the first on, come before `row`.
-pub(crate) fn rank_of<R: Record>(rows: &[R], row: &R) -> usize
-    ensures { result ≡ rank R.order row.now rows.now }
-{
-    rows.iter().take_while(|other| other.before(row)).count()
-}
 
 // Puts `row` at the place `p`: the rows from there up to the place `n` move up by one.
 pub(crate) fn open_at<R: Copy>(rows: &mut [R], p: usize, n: usize, row: R)
@@ -91,7 +84,7 @@ fn sorted_differ(codes: &mut [u64]) -> bool
     neighbours_differ(codes)
 }
 
-// A prime: the remainders of different codes seldom meet.
+// A prime: the remainders of different codes seldom meet. The spots are in fixed memory, since there is no heap.
 const SPOTS: usize = 8101;
 
 // How many looks through the earlier codes cost no more than a sort.
@@ -103,9 +96,9 @@ const SORTED: usize = 24;
 // Where a code is marked.
 fn spot_of(code: u64) -> usize
     ensures value { result ≡ spot code }
-    ensures below { result < 8101 }
+    ensures below { result < SPOTS }
 {
-    (code % 8101) as usize
+    (code % SPOTS as u64) as usize
 }
 
 // Whether no number stands twice, by marking remainders: a code whose remainder is not marked is none of the earlier ones.
@@ -151,15 +144,16 @@ fn codes_climb<R: Record>(rows: &[R]) -> bool
     rows.is_sorted_by(|row, next| row.key_code() < next.key_code())
 }
 
+// The room for codes is fixed memory, since there is no heap.
 const ROOM: usize = 512;
 
 // Whether no key stands twice, by the codes of the keys.
 fn codes_apart<R: Record>(rows: &[R]) -> bool
-    requires { length rows.now ≤ 512 }
+    requires { length rows.now ≤ ROOM }
     ensures { Decides result (Apart R.order rows.now) }
 {
     let mut room = [0u64; ROOM];
-    let codes = &mut room[0..rows.len()];
+    let codes = &mut room[..rows.len()];
     gather(rows, codes);
     all_differ(codes)
 }

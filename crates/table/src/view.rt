@@ -5,7 +5,7 @@ ghost use Rattle.table.specs.Edits.{Fitting, Judged};
 
 use crate::fault::Fault;
 use crate::record::Record;
-use crate::slices::{is_sound, rank_of};
+use crate::slices::is_sound;
 
 #[derive(Clone, Copy)]
 pub struct View<'a, R> {
@@ -67,6 +67,6 @@ impl<'a, R: Record> View<'a, R> {
     pub(crate) fn place(&self, row: &R) -> usize
         ensures { result ≡ rank R.order row.now (take self.now.count self.now.rows.now) }
     {
-        rank_of(self.counted(), row)
+        self.counted().iter().take_while(|other| other.before(row)).count()
     }
 }
