@@ -1,8 +1,9 @@
 -- Lists in which each element stands to each later one in a relation.
-use Rattle.std.proofs.Common.{◌≡◌, ℕ, zero, suc, ◌+◌, ◌-◌, ◌<◌, List, [], ◌∷◌, ◌++◌, length, get_or, take, drop, sym, ap, ◌∙◌, subst, arith}
-use Rattle.std.specs.List.{insert, remove, AllByRecursion}
-use Rattle.std.proofs.ByRecursion.{All-append, All-take, All-drop, All-get_or, All-push, All-weaker}
-use Rattle.std.proofs.lemmas.List.{take_more, get_or_read}
+use Rattle.std.proofs.Common.{◌≡◌, ℕ, zero, suc, ◌+◌, ◌<◌, Bool, true, false, Decides, List, [], ◌∷◌, length, get_or, take, drop, sym, refl, arith}
+use Rattle.std.specs.List.{insert, remove, AllAdjacentBelow, AllByRecursion, IsAllAdjacentAnswer}
+use Rattle.std.proofs.ByRecursion.{All-append, All-take, All-drop, All-from_get_or, All-get_or, All-weaker}
+use Rattle.std.proofs.lemmas.Bool.{both_ways}
+use Rattle.std.proofs.lemmas.Bool.Decides.{Decides-like}
 use Rattle.table.specs.Rows.{Pairwise}
 
 pub all_inserted : {X : Type 0} (P : X → Type 0) (xs : List X) (i : ℕ) (x : X) → AllByRecursion P xs → P x → AllByRecursion P (insert xs i x)
@@ -27,9 +28,11 @@ module _ {X : Type 0} (R : X → X → Type 0) where
   pairwise_inserted turned [] (suc i) x h k = (tt, tt)
   pairwise_inserted turned (y ∷ ys) (suc i) x h k = (all_inserted (R y) ys i x h.0 k.0, pairwise_inserted turned ys i x h.1 k.1)
 
-  pub pairwise_one : (xs : List X) → Pairwise R (take 1 xs)
-  pairwise_one [] = tt
-  pairwise_one (x ∷ xs) = (tt, tt)
+  -- by places
+  pub pairwise_from : (xs : List X) → ((i j : ℕ) (d : X) → i < j → j < length xs → R (get_or xs i d) (get_or xs j d)) → Pairwise R xs
+  pairwise_from [] h = tt
+  pairwise_from (x ∷ xs) h =
+      (All-from_get_or (R x) xs x (λ i l. h 0 (suc i) x (omega arith) (omega arith)), pairwise_from xs (λ i j d p q. h (suc i) (suc j) d (omega arith) (omega arith)))
 
   pub pairwise_get_or : (xs : List X) (i j : ℕ) (d : X) → Pairwise R xs → i < j → j < length xs → R (get_or xs i d) (get_or xs j d)
   pairwise_get_or [] i j d h b l = absurd (let z : ⊥ = omega arith in z)
@@ -37,37 +40,23 @@ module _ {X : Type 0} (R : X → X → Type 0) where
   pairwise_get_or (x ∷ xs) zero (suc j) d h b l = All-get_or (R x) xs j d (omega arith) h.0
   pairwise_get_or (x ∷ xs) (suc i) (suc j) d h b l = pairwise_get_or xs i j d h.1 (omega arith) (omega arith)
 
-  -- two neighbours, read from the list
-  pub pairwise_neighbours : (xs : List X) (i : ℕ) (a r : X) → 0 < i → i < length xs → a ≡ get_or xs (i - 1) a → r ≡ get_or xs i r → Pairwise R xs → R a r
-  pairwise_neighbours xs i a r pos b ea er h =
-      let step = pairwise_get_or xs (i - 1) i a h (omega arith) b in
-      subst (λ x. R x r) (sym ea) (subst (λ y. R (get_or xs (i - 1) a) y) (sym (get_or_read xs i r b er a)) step)
+  -- where the relation chains, neighbours are enough
+  pub pairwise_chain : ((x y z : X) → R x y → R y z → R x z) → (xs : List X) → AllAdjacentBelow R xs (length xs) → Pairwise R xs
+  pairwise_chain chains [] h = tt
+  pairwise_chain chains (x ∷ []) h = (tt, tt)
+  pairwise_chain chains (x ∷ y ∷ ys) h =
+      let up : R x y = h 0 x (omega arith) in
+      let rest = pairwise_chain chains (y ∷ ys) (λ k d l. let e : suc k + 1 ≡ suc (k + 1) = omega arith in rw e at (h (suc k) d (omega arith))) in
+      ((up, All-weaker (R y) (R x) (λ z. chains x y z up) ys rest.0), rest)
 
-  pub pairwise_push : (xs : List X) (x : X) → Pairwise R xs → AllByRecursion (λ y. R y x) xs → Pairwise R (xs ++ x ∷ [])
-  pairwise_push [] x h k = (tt, tt)
-  pairwise_push (y ∷ ys) x h k = (All-push (R y) ys x h.0 k.0, pairwise_push ys x h.1 k.1)
+  module _ (test : X → X → Bool) (each : (x y : X) → Decides (test x y) (R x y)) where
+    -- what `is_sorted_by` answers by a test
+    pub neighbours_decide : (xs : List X) (r : Bool) → IsAllAdjacentAnswer (λ x y b. b ≡ test x y) xs r → Decides r (AllAdjacentBelow R xs (length xs))
+    neighbours_decide xs true h = (λ e k d l. (each _ _).0 (sym (h k d l)), λ _. refl)
+    neighbours_decide [] false h = absurd (let z : ⊥ = omega (arith, h.1) in z)
+    neighbours_decide (x ∷ xs) false h =
+        (λ e. absurd (both_ways false refl e), λ n. absurd (both_ways _ (sym (h.2 x)) ((each _ _).1 (n h.0 x h.1))))
 
-  pub pairwise_last : (xs : List X) (x : X) → Pairwise R (xs ++ x ∷ []) → AllByRecursion (λ y. R y x) xs
-  pairwise_last [] x h = tt
-  pairwise_last (y ∷ ys) x h = (last_of ys h.0, pairwise_last ys x h.1)
-    where
-      last_of : (zs : List _) → AllByRecursion (R y) (zs ++ x ∷ []) → R y x
-      last_of [] k = k.0
-      last_of (z ∷ zs) k = last_of zs k.1
-
-  -- one element more
-  pub pairwise_more : (xs : List X) (i : ℕ) (r : X) → i < length xs → r ≡ get_or xs i r → Pairwise R (take i xs) → AllByRecursion (λ y. R y r) (take i xs) → Pairwise R (take (i + 1) xs)
-  pairwise_more xs i r b e h k =
-      let next : take (i + 1) xs ≡ take i xs ++ r ∷ [] = take_more xs i r b ∙ ap (λ y. take i xs ++ y ∷ []) (sym e) in
-      subst (λ ys. Pairwise R ys) (sym next) (pairwise_push (take i xs) r h k)
-
-  -- one element more, where the relation chains from neighbour to neighbour
-  pub pairwise_chain : ((x y z : X) → R x y → R y z → R x z) → (xs : List X) (i : ℕ) (a r : X) → 0 < i → i < length xs → a ≡ get_or xs (i - 1) a → r ≡ get_or xs i r → R a r → Pairwise R (take i xs) → Pairwise R (take (i + 1) xs)
-  pairwise_chain chains xs i a r pos b ea er up h =
-      let back : i - 1 + 1 ≡ i = omega arith in
-      let more : take (i - 1 + 1) xs ≡ take (i - 1) xs ++ a ∷ [] = take_more xs (i - 1) a (omega arith) ∙ ap (λ y. take (i - 1) xs ++ y ∷ []) (sym ea) in
-      let split : take i xs ≡ take (i - 1) xs ++ a ∷ [] = ap (λ k. take k xs) (sym back) ∙ more in
-      let under = pairwise_last (take (i - 1) xs) a (subst (λ ys. Pairwise R ys) split h) in
-      let before = All-weaker (λ y. R y a) (λ y. R y r) (λ y k. chains y a r k up) (take (i - 1) xs) under in
-      let all = subst (λ ys. AllByRecursion (λ y. R y r) ys) (sym split) (All-push (λ y. R y r) (take (i - 1) xs) a before up) in
-      pairwise_more xs i r b er h all
+    pub pairwise_decides : ((x y z : X) → R x y → R y z → R x z) → (xs : List X) (r : Bool) → IsAllAdjacentAnswer (λ x y b. b ≡ test x y) xs r → Decides r (Pairwise R xs)
+    pairwise_decides chains xs r h =
+        Decides-like r (pairwise_chain chains xs) (λ p k d l. pairwise_get_or xs k (k + 1) d p (omega arith) l) (neighbours_decide xs r h)

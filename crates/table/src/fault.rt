@@ -1,6 +1,6 @@
 // Why a table is refused, and why an edit of it is.
 
-#[derive(Clone, Copy)]
+#[derive(Clone, Copy, PartialEq, Eq)]
 pub enum Fault {
     // The slice has more places than the largest count, or fewer than are counted.
     Size,
@@ -8,7 +8,7 @@ pub enum Fault {
     Disturbed,
 }
 
-#[derive(Clone, Copy)]
+#[derive(Clone, Copy, PartialEq, Eq)]
 pub enum Refusal {
     // A counted row has the key.
     Taken,

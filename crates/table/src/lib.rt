@@ -5,3 +5,4 @@ pub mod fault;
 pub mod record;
 mod slices;
 pub mod table;
+pub mod view;

@@ -1,56 +1,17 @@
 // The loops of a table, over plain slices.
-ghost use Rattle.std.specs.Prelude.{◌≡◌, ℕ, ◌+◌, ◌-◌, ◌<◌, ◌≤◌, ◌∷◌, ◌++◌, map, length, take, drop, Decides};
+ghost use Rattle.std.specs.Prelude.{◌≡◌, ◌+◌, ◌-◌, ◌<◌, ◌≤◌, false, ◌∷◌, ◌++◌, map, length, take, drop, Decides};
 ghost use Rattle.std.specs.List.{AllByRecursion};
-ghost use Rattle.table.specs.Codes.{Changing, Distinct, Lacking, Sifted, spot};
-ghost use Rattle.table.specs.Rows.{Apart, Climbing, Rising, Sound, seat, rank};
+ghost use Rattle.table.specs.Codes.{Changing, Distinct, Sifted, spot};
+ghost use Rattle.table.specs.Rows.{Apart, Climbing, Rising, Sound};
 
 use crate::record::Record;
-
-// The counted rows: the first `count`, or all where there are fewer.
-pub(crate) fn counted<R>(rows: &[R], count: usize) -> &[R]
-    ensures { result.now ≡ take count rows.now }
-{
-    if count < rows.len() {
-        &rows[0..count]
-    } else {
-        rows
-    }
-}
-
-// The place of the first row with the key, or the length where there is none.
-pub(crate) fn seat_of<R: Record>(rows: &[R], key: R::Key) -> usize
-    ensures { result ≡ seat R.order key rows.now }
-{
-    for i in 0..rows.len() {
-        if R::same_key(rows[i].key(), key) {
-            return i;
-        }
-    }
-    rows.len()
-}
-
-// How many rows, from the first on, come before `row`.
-pub(crate) fn rank_of<R: Record>(rows: &[R], row: &R) -> usize
-    ensures { result ≡ rank R.order row.now rows.now }
-{
-    for i in 0..rows.len() {
-        if !rows[i].before(row) {
-            return i;
-        }
-    }
-    rows.len()
-}
 
 // Puts `row` at the place `p`: the rows from there up to the place `n` move up by one.
 pub(crate) fn open_at<R: Copy>(rows: &mut [R], p: usize, n: usize, row: R)
     requires { (p ≤ n) × (n < length rows.old) }
     ensures { rows.new ≡ (take p (take n rows.old) ++ row ∷ drop p (take n rows.old)) ++ drop (n + 1) rows.old }
 {
-    let mut i = n;
-    while i > p {
-        rows[i] = rows[i - 1];
-        i -= 1;
-    }
+    rows.copy_within(p..n, p + 1);
     rows[p] = row;
 }
 
@@ -59,47 +20,40 @@ pub(crate) fn close_at<R: Copy>(rows: &mut [R], p: usize, n: usize)
     requires { (p < n) × (n ≤ length rows.old) }
     ensures { rows.new ≡ (take p (take n rows.old) ++ drop (p + 1) (take n rows.old)) ++ drop (n - 1) rows.old }
 {
-    let mut i = p;
-    while i < n - 1 {
-        rows[i] = rows[i + 1];
-        i += 1;
-    }
+    rows.copy_within(p + 1..n, p);
 }
 
 // Whether each row is within its limits.
-pub(crate) fn all_within<R: Record>(rows: &[R]) -> bool
+fn all_within<R: Record>(rows: &[R]) -> bool
     ensures { Decides result (AllByRecursion R.limits rows.now) }
 {
-    for row in rows {
-        if !row.within_limits() {
-            return false;
-        }
-    }
-    true
+    rows.iter().all(|row| row.within_limits())
 }
 
 // Whether each row comes before the next one, and so before every later one.
-pub(crate) fn rising<R: Record>(rows: &[R]) -> bool
+fn rising<R: Record>(rows: &[R]) -> bool
     ensures { Decides result (Rising R.order rows.now) }
 {
-    for i in 1..rows.len() {
-        let row = rows[i];
-        let last = rows[i - 1];
-        if !last.before(&row) {
-            return false;
-        }
-    }
-    true
+    rows.is_sorted_by(|row, next| row.before(next))
 }
 
-// Whether no key stands twice, by a look at every earlier row: for a few rows, and for more than there is room for codes.
+// Whether no row has the key.
+fn lacks<R: Record>(rows: &[R], key: R::Key) -> bool
+    ensures { Decides result (AllByRecursion (λ x. R.order.same key (R.order.named x) ≡ false) rows.now) }
+{
+    rows.iter().all(|row| key != row.key())
+}
+
+// Whether no key stands twice, by a look at every later row: for a few rows, and for more than there is room for codes.
 fn keys_apart_slowly<R: Record>(rows: &[R]) -> bool
     ensures { Decides result (Apart R.order rows.now) }
 {
-    for i in 0..rows.len() {
-        if seat_of(&rows[0..i], rows[i].key()) < i {
+    let mut rest = rows;
+    while let Some((row, later)) = rest.split_first() {
+        if !lacks(later, row.key()) {
             return false;
         }
+        rest = later;
     }
     true
 }
@@ -110,8 +64,8 @@ fn gather<R: Record>(rows: &[R], codes: &mut [u64])
     ensures codes { codes.new ≡ map (λ x. R.code (R.order.named x)) rows.now }
     ensures coded { AllByRecursion (λ x. R.coded (R.order.named x)) rows.now }
 {
-    for i in 0..rows.len() {
-        codes[i] = rows[i].key_code();
+    for (i, row) in rows.iter().enumerate() {
+        codes[i] = row.key_code();
     }
 }
 
@@ -119,12 +73,7 @@ fn gather<R: Record>(rows: &[R], codes: &mut [u64])
 fn neighbours_differ(codes: &[u64]) -> bool
     ensures { Decides result (Changing codes.now) }
 {
-    for i in 1..codes.len() {
-        if codes[i - 1] == codes[i] {
-            return false;
-        }
-    }
-    true
+    codes.is_sorted_by(|code, next| code != next)
 }
 
 // Whether no number stands twice: once they are sorted, equal numbers are neighbours.
@@ -135,19 +84,7 @@ fn sorted_differ(codes: &mut [u64]) -> bool
     neighbours_differ(codes)
 }
 
-// Whether the number is none of the codes.
-fn lacks(codes: &[u64], code: u64) -> bool
-    ensures { Decides result (Lacking codes.now code) }
-{
-    for i in 0..codes.len() {
-        if codes[i] == code {
-            return false;
-        }
-    }
-    true
-}
-
-// A prime: the remainders of different codes seldom meet.
+// A prime: the remainders of different codes seldom meet. The spots are in fixed memory, since there is no heap.
 const SPOTS: usize = 8101;
 
 // How many looks through the earlier codes cost no more than a sort.
@@ -159,9 +96,9 @@ const SORTED: usize = 24;
 // Where a code is marked.
 fn spot_of(code: u64) -> usize
     ensures value { result ≡ spot code }
-    ensures below { result < 8101 }
+    ensures below { result < SPOTS }
 {
-    (code % 8101) as usize
+    (code % SPOTS as u64) as usize
 }
 
 // Whether no number stands twice, by marking remainders: a code whose remainder is not marked is none of the earlier ones.
@@ -171,15 +108,14 @@ fn sifted(codes: &[u64]) -> Option<bool>
 {
     let mut seen = [false; SPOTS];
     let mut looks = 0;
-    for i in 0..codes.len() {
-        let code = codes[i];
-        let spot = spot_of(code);
+    for (i, code) in codes.iter().enumerate() {
+        let spot = spot_of(*code);
         if seen[spot] {
             if looks == LOOKS {
                 return None;
             }
             looks += 1;
-            if !lacks(&codes[0..i], code) {
+            if codes[..i].contains(code) {
                 return Some(false);
             }
         }
@@ -205,23 +141,19 @@ fn all_differ(codes: &mut [u64]) -> bool
 fn codes_climb<R: Record>(rows: &[R]) -> bool
     ensures { Decides result (Climbing (λ x. R.code (R.order.named x)) rows.now) }
 {
-    for i in 1..rows.len() {
-        if rows[i - 1].key_code() >= rows[i].key_code() {
-            return false;
-        }
-    }
-    true
+    rows.is_sorted_by(|row, next| row.key_code() < next.key_code())
 }
 
+// The room for codes is fixed memory, since there is no heap.
 const ROOM: usize = 512;
 
 // Whether no key stands twice, by the codes of the keys.
 fn codes_apart<R: Record>(rows: &[R]) -> bool
-    requires { length rows.now ≤ 512 }
+    requires { length rows.now ≤ ROOM }
     ensures { Decides result (Apart R.order rows.now) }
 {
     let mut room = [0u64; ROOM];
-    let codes = &mut room[0..rows.len()];
+    let codes = &mut room[..rows.len()];
     gather(rows, codes);
     all_differ(codes)
 }
@@ -243,11 +175,5 @@ pub(crate) fn keys_apart<R: Record>(rows: &[R]) -> bool
 pub(crate) fn is_sound<R: Record>(rows: &[R]) -> bool
     ensures { Decides result (Sound R.order R.limits rows.now) }
 {
-    if !all_within(rows) {
-        return false;
-    }
-    if !rising(rows) {
-        return false;
-    }
-    keys_apart(rows)
+    all_within(rows) && rising(rows) && keys_apart(rows)
 }

@@ -1,11 +1,12 @@
 // A table: the first `count` rows of a slice that is lent to it.
 ghost use Rattle.std.specs.Prelude.{◌≡◌, ℕ, ◌≤◌, length, take, Decides};
-ghost use Rattle.table.specs.Rows.{Sound, found, rank};
+ghost use Rattle.table.specs.Rows.{Sound, found};
 ghost use Rattle.table.specs.Edits.{Fitting, Judged, Inserted, Removed};
 
 use crate::fault::{Fault, Refusal};
 use crate::record::Record;
-use crate::slices::{close_at, counted, is_sound, open_at, rank_of, seat_of};
+use crate::slices::{close_at, open_at};
+use crate::view::View;
 
 #[derive(Drop)]
 pub struct Table<'a, R> {
@@ -22,48 +23,39 @@ impl<'a, R: Record> Table<'a, R> {
         Table { rows, count }
     }
 
+    // A look at the table.
+    pub fn view(&self) -> View<'_, R>
+        ensures rows { result.rows.now ≡ self.now.rows.now }
+        ensures count { result.count ≡ self.now.count }
+    {
+        View::new(&*self.rows, self.count)
+    }
+
     // Whether the slice has no more places than the largest count, and no fewer than are counted.
     pub fn fits(&self) -> bool
         ensures { Decides result (Fitting R.most self.now.rows.now self.now.count) }
     {
-        self.rows.len() <= R::limit() && self.count <= self.rows.len()
+        self.view().fits()
     }
 
     // Whether the counted rows are within their limits and in order, with no key twice.
     pub fn is_sound(&self) -> bool
         ensures { Decides result (Sound R.order R.limits (take self.now.count self.now.rows.now)) }
     {
-        let rows = &*self.rows;
-        is_sound(counted(rows, self.count))
+        self.view().is_sound()
     }
 
     pub fn check(&self) -> Result<(), Fault>
         ensures { Judged R.order R.limits R.most self.now.rows.now self.now.count result }
     {
-        if !self.fits() {
-            return Err(Fault::Size);
-        }
-        if !self.is_sound() {
-            return Err(Fault::Disturbed);
-        }
-        Ok(())
+        self.view().check()
     }
 
     // The place of the counted row with the key.
     pub fn find(&self, key: R::Key) -> Option<usize>
         ensures { result ≡ found R.order key (take self.now.count self.now.rows.now) }
     {
-        let rows = counted(&*self.rows, self.count);
-        let i = seat_of(rows, key);
-        if i < rows.len() { Some(i) } else { None }
-    }
-
-    // How many counted rows, from the first on, come before `row`.
-    fn place(&self, row: &R) -> usize
-        ensures { result ≡ rank R.order row.now (take self.now.count self.now.rows.now) }
-    {
-        let rows = &*self.rows;
-        rank_of(counted(rows, self.count), row)
+        self.view().find(key)
     }
 
     // Puts a row in at its place in the order.
@@ -80,7 +72,7 @@ impl<'a, R: Record> Table<'a, R> {
         if n >= self.rows.len() {
             return Err(Refusal::Full);
         }
-        let p = self.place(&row);
+        let p = self.view().place(&row);
         open_at(self.rows, p, n, row);
         self.count = n + 1;
         Ok(())

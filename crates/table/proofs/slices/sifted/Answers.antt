@@ -1,15 +1,12 @@
-use Rattle.std.proofs.Common.{◌-◌, ◌≤◌, arith, length-set, rules}
-use Rattle.std.proofs.lemmas.Bool.{both_ways}
+use Rattle.std.proofs.Common.{◌≤◌, arith, length-set, rules}
+use Rattle.std.proofs.lemmas.List.{take_all}
 use Rattle.table.proofs.Decisions.{decides_yes, decides_no}
-use Rattle.table.proofs.Sieves.{Fresh, marked_more, differing_more, distinct_differing, fresh_lacking, fresh_unmarked, not_distinct}
-use Rattle.table.proofs.slices.sifted.Goals.{then-seen-spot+else-looks-eq-LOOKS+else-not-lacks, else-seen-spot}
+use Rattle.table.proofs.Sieves.{Fresh, marked_more, distinct_more, fresh_within, fresh_unmarked, not_distinct}
+use Rattle.table.proofs.slices.sifted.Goals.{then-seen-spot+else-looks-eq-LOOKS+else-contains, else-seen-spot}
 use Rattle.table.proofs.slices.sifted.Goals as goal
 
-pub returns-then-not-lacks : goal.returns-then-not-lacks
-returns-then-not-lacks c =
-    let cs = c.args.codes.now in
-    let i = c.loop-i.i in
-    decides_no (not_distinct cs i (i - 0) (omega arith) c.loop-i-test.true (λ h. both_ways c.lacks.result c.if-not-lacks.true (c.lacks.ensures.1 h)))
+pub returns-then-contains : goal.returns-then-contains
+returns-then-contains c = decides_no (not_distinct c.args.codes.now c.loop-i.i c.loop-i-test.true c.if-contains.ensures.cases)
 
 pub loop-i-preserved : goal.loop-i-preserved
 loop-i-preserved c =
@@ -24,10 +21,12 @@ loop-i-preserved c =
     let few : c.if-seen-spot.looks ≤ 16 = search rules in
     let fresh : Fresh cs i =
     elim c.if-seen-spot.branch [
-      | then-seen-spot+else-looks-eq-LOOKS+else-not-lacks w ↦ fresh_lacking cs i (i - 0) (omega arith) c.loop-i-test.true (w.lacks.ensures.0 w.if-not-lacks.false)
+      | then-seen-spot+else-looks-eq-LOOKS+else-contains w ↦ fresh_within cs i w.if-contains.ensures.cases
       | else-seen-spot w ↦ fresh_unmarked seen cs i s is w.if-seen-spot.false h.2
     ] in
-    (few, simp length-set long, marked_more seen cs i s (omega arith) is h.2, differing_more cs i fresh h.3)
+    (few, simp length-set long, marked_more seen cs i s (omega arith) is h.2, distinct_more cs i c.loop-i-test.true fresh h.3)
 
 pub returns : goal.returns
-returns c = decides_yes (distinct_differing c.args.codes.now c.loop-i.i c.loop-i-test.false c.loop-i.invariant.3)
+returns c =
+    let all = take_all c.loop-i.i c.args.codes.now c.loop-i-test.false in
+    decides_yes (rw all at c.loop-i.invariant.3)
