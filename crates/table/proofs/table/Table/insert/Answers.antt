@@ -3,7 +3,7 @@ use Rattle.std.proofs.lemmas.List.{length-take-le}
 use Rattle.std.proofs.lemmas.List.Sums.{prefix_len-le-length}
 use Rattle.table.specs.Rows.{found, rank}
 use Rattle.table.proofs.Keys.{found_none}
-use Rattle.table.proofs.Sounds.{sound_inserted, was_inserted}
+use Rattle.table.proofs.Sounds.{sound_inserted}
 use Rattle.table.proofs.table.Table.insert.Goals as goal
 
 pub returns-then-n-self : goal.returns-then-n-self
@@ -23,8 +23,8 @@ returns g c =
     let n = c.args.self.now.count in
     let no : is_some (found o (o.named r) (take n xs)) ≡ false = search rules in
     let absent = found_none o (o.named r) _ no in
-    let at : c.place-p.result ≡ rank o r (take n xs) = search rules in
-    let is = was_inserted o g.met.R.Record.lawful g.R.Record.limits r xs _ n c.place-p.result at c.open_at.ensures in
+    let first : c.place-p.result ≡ rank o r (take n xs) = search rules in
+    let is = rw first at c.open_at.ensures in
     let free : n < length xs = search rules in
     let sound = sound_inserted o g.met.R.Record.lawful g.R.Record.limits r xs _ n free absent is in
     record {

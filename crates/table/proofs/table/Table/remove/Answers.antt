@@ -1,5 +1,6 @@
 use Rattle.std.proofs.Common.{◌≡◌, ◌+◌, ◌-◌, false, ◌++◌, take, drop, is_some, sym, refl, ◌∙◌, arith, rules}
 use Rattle.std.proofs.lemmas.List.{length-take}
+use Rattle.std.specs.List.{remove}
 use Rattle.table.specs.Rows.{found}
 use Rattle.table.proofs.Keys.{found_at, found_none}
 use Rattle.table.proofs.Sounds.{sound_removed, was_removed}
@@ -31,7 +32,7 @@ returns g c =
     let n = c.args.self.now.count in
     let k = c.min-n.result in
     let p = c.in-Some.p in
-    let closed : c.close_at.new.rows ≡ (take p (take k xs) ++ drop (p + 1) (take k xs)) ++ drop (k - 1) xs = search rules in
+    let closed : c.close_at.new.rows ≡ remove (take k xs) p ++ drop (k - 1) xs = search rules in
     let out = was_removed o l g.R.Record.limits c.args.key xs _ n c.min-n.result c.in-Some.p c.min-n.ensures (sym c.find.ensures ∙ c.in-Some.is) closed in
     record {
       edit = out;
