@@ -7,7 +7,7 @@ use Rattle.std.proofs.lemmas.List.{length-take, length-take-le, take_at, take_mi
 use Rattle.std.proofs.lemmas.List.Edits.{length-insert, length-remove}
 use Rattle.std.proofs.lemmas.List.Sums.{prefix_len-le-length}
 use Rattle.table.specs.Order.{Order, Lawful}
-use Rattle.table.specs.Rows.{Absent, Rising, Sound, found, rank, with_row}
+use Rattle.table.specs.Rows.{Absent, Rising, Sound, found, rank, seat, with_row, without}
 use Rattle.table.specs.Edits.{Removed}
 use Rattle.table.proofs.Keys.{absent_everywhere, found_at}
 use Rattle.table.proofs.Pairs.{all_inserted, all_removed, pairwise_inserted, pairwise_removed}
@@ -56,17 +56,18 @@ module _ {X K : Type 0} (o : Order X K) (l : Lawful o) where
         let is : take (n + 1) ys ≡ with_row o r (take n xs) = ap (take (n + 1)) q ∙ take_at (with_row o r (take n xs)) (drop (n + 1) xs) (n + 1) size in
         subst (λ zs. Sound o limits zs) (sym is) (sound_put r (take n xs) w a s)
 
-    -- after a removal of the row at p, one of the m + 1 counted rows
-    pub sound_removed : (xs cs ys : List X) (m p : ℕ) → m + 1 ≡ length cs → p < length cs → ys ≡ remove cs p ++ drop m xs → Sound o limits cs → Sound o limits (take m ys)
-    sound_removed xs cs ys m p len b q s =
-        let size : length (remove cs p) ≡ m = omega (arith, length-remove cs p b) in
-        let is : take m ys ≡ remove cs p = ap (take m) q ∙ take_at (remove cs p) (drop m xs) m size in
-        subst (λ zs. Sound o limits zs) (sym is) (sound_out cs p s)
+    -- after a removal
+    pub sound_removed : (k : K) (xs ys : List X) (n m : ℕ) → Removed o k xs n ys m true → Sound o limits (take n xs) → Sound o limits (take m ys)
+    sound_removed k xs ys n m e s =
+        let cs = without o k (take n xs) in
+        let size : length cs ≡ m = omega (arith, length-remove (take n xs) (seat o k (take n xs)) e.0, e.2) in
+        let left : take m ys ≡ cs = ap (take m) e.1 ∙ take_at cs (drop m xs) m size in
+        subst (λ zs. Sound o limits zs) (sym left) (sound_out (take n xs) (seat o k (take n xs)) s)
 
-    -- the same, where n of the slice's places are counted
-    pub was_removed : (k : K) (xs ys : List X) (count n p : ℕ) → n ≡ min count (length xs) → found o k (take count xs) ≡ Some p → ys ≡ remove (take n xs) p ++ drop (n - 1) xs → Removed o k xs count ys (n - 1) true
-    was_removed k xs ys count n p e f q =
-        let place = found_at o k (take count xs) p f in
-        let same : take n xs ≡ take count xs = ap (λ j. take j xs) e ∙ take_min count xs in
-        let is : ys ≡ remove (take count xs) p ++ drop (n - 1) xs = rw same at q in
-        (place.1, rw place.0 at is, omega (arith, length-take count xs))
+  -- the row at p is taken out, where n of the slice's places are counted
+  pub was_removed : (k : K) (xs ys : List X) (count n p : ℕ) → n ≡ min count (length xs) → found o k (take count xs) ≡ Some p → ys ≡ remove (take n xs) p ++ drop (n - 1) xs → Removed o k xs count ys (n - 1) true
+  was_removed k xs ys count n p e f q =
+      let place = found_at o k (take count xs) p f in
+      let same : take n xs ≡ take count xs = ap (λ j. take j xs) e ∙ take_min count xs in
+      let is : ys ≡ remove (take count xs) p ++ drop (n - 1) xs = rw same at q in
+      (place.1, rw place.0 at is, omega (arith, length-take count xs))
