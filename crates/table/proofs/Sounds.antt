@@ -26,8 +26,8 @@ module _ {X K : Type 0} (o : Order X K) (l : Lawful o) where
       elim (o.precedes x r) as P [
         | true ↦ λ t. rw one-add (all_inserted (λ y. o.precedes x y ≡ true) xs (rank o r xs) r h.0 t, rising_put r xs h.1 d.1)
         | false ↦ λ t.
-        let f = l.apart x r d.0 t in
-        ((f, All-weaker (λ y. o.precedes x y ≡ true) (λ y. o.precedes r y ≡ true) (λ y. l.chains r x y f) xs h.0), h)
+            let f = l.apart x r d.0 t in
+            ((f, All-weaker (λ y. o.precedes x y ≡ true) (λ y. o.precedes r y ≡ true) (λ y. l.chains r x y f) xs h.0), h)
       ] in
       go refl
 

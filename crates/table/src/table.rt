@@ -59,7 +59,7 @@ impl<'a, R: Record> Table<'a, R> {
     }
 
     // Puts a row in at its place in the order.
-    #[tactic(auto, using(crate::proofs::Keys::found_none, crate::proofs::Sounds::sound_inserted))]
+    #[tactic(auto, using(crate::proofs::Keys::found_none))]
     pub fn insert(&mut self, row: R) -> Result<(), Refusal>
         ensures edit { Inserted R.order row self.old.rows.now self.old.count self.new.rows.now self.new.count result }
         ensures keeps { R.limits row → Sound R.order R.limits (take self.old.count self.old.rows.now) → Sound R.order R.limits (take self.new.count self.new.rows.now) }
@@ -80,7 +80,7 @@ impl<'a, R: Record> Table<'a, R> {
     }
 
     // Takes out the row with the key; answers whether there was one.
-    #[tactic(auto, using(crate::proofs::Keys::found_none, crate::proofs::Sounds::was_removed, crate::proofs::Sounds::sound_removed))]
+    #[tactic(auto, using(crate::proofs::Keys::found_none, crate::proofs::Sounds::was_removed))]
     pub fn remove(&mut self, key: R::Key) -> bool
         ensures edit { Removed R.order key self.old.rows.now self.old.count self.new.rows.now self.new.count result }
         ensures keeps { Sound R.order R.limits (take self.old.count self.old.rows.now) → Sound R.order R.limits (take self.new.count self.new.rows.now) }

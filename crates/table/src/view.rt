@@ -67,6 +67,9 @@ impl<'a, R: Record> View<'a, R> {
     pub(crate) fn place(&self, row: &R) -> usize
         ensures { result ≡ rank R.order row.now (take self.now.count self.now.rows.now) }
     {
-        self.counted().iter().take_while(|other| other.before(row)).count()
+        self.counted()
+            .iter()
+            .take_while(|other| other.before(row))
+            .count()
     }
 }

@@ -6,7 +6,7 @@ use Rattle.table.proofs.slices.sifted.Goals.{then-seen-spot+else-looks-eq-LOOKS+
 use Rattle.table.proofs.slices.sifted.Goals as goal
 
 pub returns-then-contains : goal.returns-then-contains
-returns-then-contains c = 
+returns-then-contains c =
     (λ e. absurd (both_ways false refl e), λ d. absurd (not_distinct c.args.codes.now c.loop-i.i c.loop-i-test.true c.if-contains.ensures.cases d))
 
 pub loop-i-preserved : goal.loop-i-preserved
