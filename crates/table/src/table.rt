@@ -33,7 +33,7 @@ impl<'a, R: Record> Table<'a, R> {
 
     // Whether the slice has no more places than the largest count, and no fewer than are counted.
     pub fn fits(&self) -> bool
-        ensures { Decides result (Fitting R.most self.now.rows.now self.now.count) }
+        ensures { Decides result (Fitting R.MAX self.now.rows.now self.now.count) }
     {
         self.view().fits()
     }
@@ -46,7 +46,7 @@ impl<'a, R: Record> Table<'a, R> {
     }
 
     pub fn check(&self) -> Result<(), Fault>
-        ensures { Judged R.order R.limits R.most self.now.rows.now self.now.count result }
+        ensures { Judged R.order R.limits R.MAX self.now.rows.now self.now.count result }
     {
         self.view().check()
     }
