@@ -17,7 +17,7 @@ impl Record for Account {
 
     const MAX: usize = 512;
 
-    ghost most = { 512 };
+    ghost MAX = { 512 };
 
     ghost order = { account_order };
 
@@ -32,10 +32,6 @@ impl Record for Account {
     ghost equal = { Prim.search rules };
 
     ghost tells = { Prim.search rules };
-
-    fn limit() -> usize {
-        Self::MAX
-    }
 
     fn key(&self) -> u32 {
         self.agent

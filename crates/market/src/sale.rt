@@ -18,7 +18,7 @@ impl Record for Sale {
 
     const MAX: usize = 256;
 
-    ghost most = { 256 };
+    ghost MAX = { 256 };
 
     ghost order = { sale_order };
 
@@ -33,10 +33,6 @@ impl Record for Sale {
     ghost equal = { Prim.search rules };
 
     ghost tells = { Prim.search rules };
-
-    fn limit() -> usize {
-        Self::MAX
-    }
 
     fn key(&self) -> BlockKey {
         self.block.bid.key()

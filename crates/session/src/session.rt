@@ -46,7 +46,7 @@ fn check_tables<R: Record>(
     accounts: &mut [Account],
     owners: usize,
 ) -> Result<(), Refusal>
-    ensures why { FirstCause (standing_causes (kind R.order R.limits R.most) (lent rows.old count) (lent accounts.old owners)) result }
+    ensures why { FirstCause (standing_causes (kind R.order R.limits R.MAX) (lent rows.old count) (lent accounts.old owners)) result }
     ensures rows { rows.new ≡ rows.old }
     ensures accounts { accounts.new ≡ accounts.old }
 {
@@ -68,8 +68,8 @@ fn put_owned<R: Record>(
     agent: u32,
     row: R,
 ) -> Result<usize, Refusal>
-    ensures why { FirstCause (owned_causes (kind R.order R.limits R.most) row agent (lent rows.old count) (lent accounts.old owners)) result }
-    ensures after { Leaves rows.old (Becomes (put_in (kind R.order R.limits R.most) row (lent rows.old count))) result rows.new }
+    ensures why { FirstCause (owned_causes (kind R.order R.limits R.MAX) row agent (lent rows.old count) (lent accounts.old owners)) result }
+    ensures after { Leaves rows.old (Becomes (put_in (kind R.order R.limits R.MAX) row (lent rows.old count))) result rows.new }
     ensures accounts { accounts.new ≡ accounts.old }
 {
     if stands(accounts, owners, agent) {
@@ -88,8 +88,8 @@ fn put_bid<R: Record>(
     bid: Bid,
     row: R,
 ) -> Result<usize, Refusal>
-    ensures why { FirstCause (bid_causes bid ++ owned_causes (kind R.order R.limits R.most) row bid.agent (lent rows.old count) (lent accounts.old owners)) result }
-    ensures after { Leaves rows.old (Becomes (put_in (kind R.order R.limits R.most) row (lent rows.old count))) result rows.new }
+    ensures why { FirstCause (bid_causes bid ++ owned_causes (kind R.order R.limits R.MAX) row bid.agent (lent rows.old count) (lent accounts.old owners)) result }
+    ensures after { Leaves rows.old (Becomes (put_in (kind R.order R.limits R.MAX) row (lent rows.old count))) result rows.new }
     ensures accounts { accounts.new ≡ accounts.old }
 {
     match bid.check() {
@@ -107,8 +107,8 @@ fn enter_row<R: Record>(
     bid: Bid,
     row: R,
 ) -> Result<usize, Refusal>
-    ensures why { FirstCause (row_enter_causes (kind R.order R.limits R.most) row bid (lent rows.old count) (lent accounts.old owners)) result }
-    ensures after { Leaves rows.old (Becomes (put_in (kind R.order R.limits R.most) row (lent rows.old count))) result rows.new }
+    ensures why { FirstCause (row_enter_causes (kind R.order R.limits R.MAX) row bid (lent rows.old count) (lent accounts.old owners)) result }
+    ensures after { Leaves rows.old (Becomes (put_in (kind R.order R.limits R.MAX) row (lent rows.old count))) result rows.new }
     ensures accounts { accounts.new ≡ accounts.old }
 {
     match check_tables(rows, count, accounts, owners) {
@@ -123,8 +123,8 @@ fn withdraw_row<R: Record<Key = BlockKey>>(
     count: usize,
     key: BlockKey,
 ) -> Result<usize, Refusal>
-    ensures why { FirstCause (row_withdraw_causes (kind R.order R.limits R.most) key (lent rows.old count)) result }
-    ensures after { Leaves rows.old (Becomes (taken_out (kind R.order R.limits R.most) key (lent rows.old count))) result rows.new }
+    ensures why { FirstCause (row_withdraw_causes (kind R.order R.limits R.MAX) key (lent rows.old count)) result }
+    ensures after { Leaves rows.old (Becomes (taken_out (kind R.order R.limits R.MAX) key (lent rows.old count))) result rows.new }
 {
     if !fits(rows, count) {
         return Err(Refusal::TableSize);

@@ -1,11 +1,11 @@
 -- Numbers none of which stands twice: kept by a sort, seen at neighbours once sorted, and the same as keys that stand apart.
-use Rattle.std.proofs.Common.{◌≡◌, ℕ, ◌+◌, ◌<◌, Bool, true, false, List, ◌∷◌, ◌++◌, [], map, eqb, length, get_or, take, set, Decides, sym, ap, ◌∙◌, subst, ⊎_elim, arith}
+use Rattle.std.proofs.Common.{◌≡◌, ℕ, ◌+◌, ◌<◌, Bool, true, false, List, ◌∷◌, [], map, eqb, length, get_or, Decides, sym, ap, ◌∙◌, subst, ⊎_elim, arith}
 use Rattle.std.specs.List.Sorted.{IsPermutation, IsNonDecreasing}
 use Rattle.std.specs.List.{AllByRecursion, IsDistinct}
 use Rattle.std.proofs.ByRecursion.{All-get_or}
-use Rattle.std.proofs.lemmas.Bool.{both_ways, cases_Bool, cases_eq, cases_lt}
+use Rattle.std.proofs.lemmas.Bool.{both_ways, cases_Bool, cases_lt}
 use Rattle.std.proofs.lemmas.Bool.Decides.{nat_tests}
-use Rattle.std.proofs.lemmas.List.{get_or_default, get_or-map, length-map, map_more, take_more_set}
+use Rattle.std.proofs.lemmas.List.{get_or_default, get_or-map, length-map}
 use Rattle.std.proofs.lemmas.Map.Keys.{apart_from_distinct, IsDistinct-from_apart, IsDistinct-IsPermutation}
 use Rattle.table.specs.Codes.{Changing, Distinct}
 use Rattle.table.specs.Order.{Order, Lawful}
@@ -74,8 +74,3 @@ module _ {X K : Type 0} (o : Order X K) (l : Lawful o) (code : K → ℕ) (coded
   pub apart_decides : (xs : List X) (cs : List ℕ) (r : Bool) → cs ≡ map (λ x. code (o.named x)) xs → AllByRecursion (λ x. coded (o.named x)) xs → Decides r (Distinct cs) → Decides r (Apart o xs)
   apart_decides xs cs r e c d =
       (λ t. apart_from_distinct_codes xs (subst Distinct e (d.0 t)), λ a. d.1 (subst Distinct (sym e) (distinct_from_apart xs c a)))
-
--- one element more of a list that is made element by element
-pub gathered_more : {X : Type 0} (f : X → ℕ) (xs : List X) (cs : List ℕ) (i : ℕ) (x : X) (v : ℕ) → length cs ≡ length xs → i < length xs → x ≡ get_or xs i x → v ≡ f x → take i cs ≡ map f (take i xs) → take (i + 1) (set cs i v) ≡ map f (take (i + 1) xs)
-gathered_more f xs cs i x v len l at is h =
-    take_more_set cs i v (omega arith) ∙ ap (λ ys. ys ++ v ∷ []) h ∙ ap (λ y. map f (take i xs) ++ y ∷ []) (is ∙ ap f at) ∙ sym (map_more f xs i x l)

@@ -1,7 +1,6 @@
 pub mod Moves
 pub mod Pairs
 pub mod Keys
-pub mod Decisions
 pub mod Sounds
 pub mod Distincts
 pub mod Sieves

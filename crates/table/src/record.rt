@@ -5,10 +5,10 @@ ghost use Rattle.table.specs.Order.{Order, Lawful};
 pub trait Record: Copy {
     type Key: Copy + PartialEq;
 
-    // The largest count of a table. No clause of generic code can name a constant, so clauses say `most`, which `limit` answers.
+    // The largest count of a table.
     const MAX: usize;
 
-    ghost most: { ℕ };
+    ghost MAX: { ℕ };
 
     // What names a row, when two keys are the same, and which of two rows comes first.
     ghost order: { Order Self Self.Key };
@@ -20,9 +20,6 @@ pub trait Record: Copy {
     ghost code: { Self.Key → ℕ };
 
     ghost coded: { Self.Key → Type 0 };
-
-    fn limit() -> usize
-        ensures { result ≡ most };
 
     fn key(&self) -> Self::Key
         ensures { result ≡ order.named self.now };

@@ -1,24 +1,26 @@
 // The loops of a table, over plain slices.
-ghost use Rattle.std.specs.Prelude.{◌≡◌, ◌+◌, ◌-◌, ◌<◌, ◌≤◌, false, ◌∷◌, ◌++◌, map, length, take, drop, Decides};
-ghost use Rattle.std.specs.List.{AllByRecursion};
+ghost use Rattle.std.specs.Prelude.{◌≡◌, ◌+◌, ◌-◌, ◌<◌, ◌≤◌, false, ◌++◌, map, length, take, drop, Decides};
+ghost use Rattle.std.specs.List.{AllByRecursion, insert, remove};
 ghost use Rattle.table.specs.Codes.{Changing, Distinct, Sifted, spot};
 ghost use Rattle.table.specs.Rows.{Apart, Climbing, Rising, Sound};
 
 use crate::record::Record;
 
 // Puts `row` at the place `p`: the rows from there up to the place `n` move up by one.
+#[tactic(auto, using(crate::proofs::Moves::opened))]
 pub(crate) fn open_at<R: Copy>(rows: &mut [R], p: usize, n: usize, row: R)
     requires { (p ≤ n) × (n < length rows.old) }
-    ensures { rows.new ≡ (take p (take n rows.old) ++ row ∷ drop p (take n rows.old)) ++ drop (n + 1) rows.old }
+    ensures { rows.new ≡ insert (take n rows.old) p row ++ drop (n + 1) rows.old }
 {
     rows.copy_within(p..n, p + 1);
     rows[p] = row;
 }
 
 // Takes out the row at the place `p`: the rows above it, below the place `n`, move down by one.
+#[tactic(auto, using(crate::proofs::Moves::closed))]
 pub(crate) fn close_at<R: Copy>(rows: &mut [R], p: usize, n: usize)
     requires { (p < n) × (n ≤ length rows.old) }
-    ensures { rows.new ≡ (take p (take n rows.old) ++ drop (p + 1) (take n rows.old)) ++ drop (n - 1) rows.old }
+    ensures { rows.new ≡ remove (take n rows.old) p ++ drop (n - 1) rows.old }
 {
     rows.copy_within(p + 1..n, p);
 }

@@ -33,7 +33,7 @@ impl<'a, R: Record> Table<'a, R> {
 
     // Whether the slice has no more places than the largest count, and no fewer than are counted.
     pub fn fits(&self) -> bool
-        ensures { Decides result (Fitting R.most self.now.rows.now self.now.count) }
+        ensures { Decides result (Fitting R.MAX self.now.rows.now self.now.count) }
     {
         self.view().fits()
     }
@@ -46,7 +46,7 @@ impl<'a, R: Record> Table<'a, R> {
     }
 
     pub fn check(&self) -> Result<(), Fault>
-        ensures { Judged R.order R.limits R.most self.now.rows.now self.now.count result }
+        ensures { Judged R.order R.limits R.MAX self.now.rows.now self.now.count result }
     {
         self.view().check()
     }
@@ -59,6 +59,7 @@ impl<'a, R: Record> Table<'a, R> {
     }
 
     // Puts a row in at its place in the order.
+    #[tactic(auto, using(crate::proofs::Keys::found_none))]
     pub fn insert(&mut self, row: R) -> Result<(), Refusal>
         ensures edit { Inserted R.order row self.old.rows.now self.old.count self.new.rows.now self.new.count result }
         ensures keeps { R.limits row → Sound R.order R.limits (take self.old.count self.old.rows.now) → Sound R.order R.limits (take self.new.count self.new.rows.now) }
@@ -79,6 +80,7 @@ impl<'a, R: Record> Table<'a, R> {
     }
 
     // Takes out the row with the key; answers whether there was one.
+    #[tactic(auto, using(crate::proofs::Keys::found_none, crate::proofs::Sounds::was_removed))]
     pub fn remove(&mut self, key: R::Key) -> bool
         ensures edit { Removed R.order key self.old.rows.now self.old.count self.new.rows.now self.new.count result }
         ensures keeps { Sound R.order R.limits (take self.old.count self.old.rows.now) → Sound R.order R.limits (take self.new.count self.new.rows.now) }

@@ -32,9 +32,9 @@ impl<'a, R> View<'a, R> {
 impl<'a, R: Record> View<'a, R> {
     // Whether the slice has no more places than the largest count, and no fewer than are counted.
     pub fn fits(&self) -> bool
-        ensures { Decides result (Fitting R.most self.now.rows.now self.now.count) }
+        ensures { Decides result (Fitting R.MAX self.now.rows.now self.now.count) }
     {
-        self.rows.len() <= R::limit() && self.count <= self.rows.len()
+        self.rows.len() <= R::MAX && self.count <= self.rows.len()
     }
 
     // Whether the counted rows are within their limits and in order, with no key twice.
@@ -45,7 +45,7 @@ impl<'a, R: Record> View<'a, R> {
     }
 
     pub fn check(&self) -> Result<(), Fault>
-        ensures { Judged R.order R.limits R.most self.now.rows.now self.now.count result }
+        ensures { Judged R.order R.limits R.MAX self.now.rows.now self.now.count result }
     {
         if !self.fits() {
             return Err(Fault::Size);
@@ -67,6 +67,9 @@ impl<'a, R: Record> View<'a, R> {
     pub(crate) fn place(&self, row: &R) -> usize
         ensures { result ≡ rank R.order row.now (take self.now.count self.now.rows.now) }
     {
-        self.counted().iter().take_while(|other| other.before(row)).count()
+        self.counted()
+            .iter()
+            .take_while(|other| other.before(row))
+            .count()
     }
 }

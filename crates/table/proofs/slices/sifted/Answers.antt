@@ -1,12 +1,13 @@
-use Rattle.std.proofs.Common.{◌≤◌, arith, length-set, rules}
+use Rattle.std.proofs.Common.{◌≤◌, false, refl, arith, length-set, rules}
+use Rattle.std.proofs.lemmas.Bool.{both_ways}
 use Rattle.std.proofs.lemmas.List.{take_all}
-use Rattle.table.proofs.Decisions.{decides_yes, decides_no}
 use Rattle.table.proofs.Sieves.{Fresh, marked_more, distinct_more, fresh_within, fresh_unmarked, not_distinct}
 use Rattle.table.proofs.slices.sifted.Goals.{then-seen-spot+else-looks-eq-LOOKS+else-contains, else-seen-spot}
 use Rattle.table.proofs.slices.sifted.Goals as goal
 
 pub returns-then-contains : goal.returns-then-contains
-returns-then-contains c = decides_no (not_distinct c.args.codes.now c.loop-i.i c.loop-i-test.true c.if-contains.ensures.cases)
+returns-then-contains c =
+    (λ e. absurd (both_ways false refl e), λ d. absurd (not_distinct c.args.codes.now c.loop-i.i c.loop-i-test.true c.if-contains.ensures.cases d))
 
 pub loop-i-preserved : goal.loop-i-preserved
 loop-i-preserved c =
@@ -29,4 +30,4 @@ loop-i-preserved c =
 pub returns : goal.returns
 returns c =
     let all = take_all c.loop-i.i c.args.codes.now c.loop-i-test.false in
-    decides_yes (rw all at c.loop-i.invariant.3)
+    (λ _. rw all at c.loop-i.invariant.3, λ _. refl)
