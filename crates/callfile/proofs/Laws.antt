@@ -1,6 +1,7 @@
 -- A reading is lawful if it takes just the texts of the fitting values from the front of a line.
 use Rattle.std.proofs.Common.{◌≡◌, ℕ, ◌<◌, List, [], ◌∷◌, ◌++◌, Some, decimal, Option, sym, refl, ap, ◌∙◌, subst, append_assoc, arith}
 use Rattle.std.specs.Option.{option_map}
+use Rattle.std.proofs.lemmas.Option.{some_pair_parts}
 use Rattle.callfile.specs.Forms.{Reading, past, until, both, made}
 use Rattle.callfile.specs.Reading.{and_then, byte_of, number_of, value_from, value_of}
 use Rattle.callfile.specs.Tokens.{Part, open_part, close_part, word_part, number_part, token_of}
@@ -116,6 +117,20 @@ module _ {A : Type 0} {value : List ℕ → Option A} {w : A → List ℕ} {Fit 
             ap (λ o. and_then o (λ q. value_from value q.0 q.1)) (first a rest fits ends)
             ∙ ap (λ o. option_map (λ x. (x, rest)) o) (complete a fits);
       }
+
+from_text : {A : Type 0} (value : List ℕ → Option A) (part : Part) (left text rest : List ℕ) (a : A) → value_from Some part left ≡ Some (text, rest) → value text ≡ Some a → value_from value part left ≡ Some (a, rest)
+from_text value open_part left text rest a e is = absurd (let z : ◌≡◌ {A = ℕ} 0 1 = cc in omega arith)
+from_text value close_part left text rest a e is = absurd (let z : ◌≡◌ {A = ℕ} 0 1 = cc in omega arith)
+from_text value (word_part w) left text rest a e is = absurd (let z : ◌≡◌ {A = ℕ} 0 1 = cc in omega arith)
+from_text value (number_part w) left text rest a e is =
+    let same = some_pair_parts w text left rest e in
+    ap (λ o. option_map (λ n. (n, left)) o) (ap value same.0 ∙ is) ∙ ap (λ l. Some (a, l)) same.1
+
+-- the value of a text that was read first
+pub text_value : {A : Type 0} (value : List ℕ → Option A) (bs text rest : List ℕ) (a : A) → value_of Some bs ≡ Some (text, rest) → value text ≡ Some a → value_of value bs ≡ Some (a, rest)
+text_value value bs text rest a read is =
+    let part = and_then_some (token_of bs) (λ q. value_from Some q.0 q.1) (text, rest) read in
+    ap (λ o. and_then o (λ q. value_from value q.0 q.1)) part.1 ∙ from_text value part.0.0 part.0.1 text rest a part.2 is
 
 pub number_lawful : Lawful number_of decimal Short
 number_lawful =

@@ -1,5 +1,4 @@
 pub mod Calls
-pub mod Fronts
 pub mod Laws
 pub mod Numerals
 pub mod Prices

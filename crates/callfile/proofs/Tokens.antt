@@ -3,6 +3,8 @@ use Rattle.std.proofs.Common.{◌≡◌, ℕ, suc, ◌+◌, ◌<◌, ◌≤◌, 
 use Rattle.std.specs.Option.{option_map}
 use Rattle.std.specs.Int.{is_in_range}
 use Rattle.std.specs.Str.{all_ascii_digits}
+use Rattle.std.specs.List.{take_while}
+use Rattle.std.proofs.lemmas.List.Sums.{take_while-cons}
 use Rattle.std.proofs.lemmas.List.{take-append-drop, take_at, drop_at}
 use Rattle.std.proofs.lemmas.Bool.{eqb-true, eq-eqb, ne_eqb, leb-true, and_parts, lt-leb, and_from, and_left, cond-true, cond-false}
 use Rattle.callfile.specs.Reading.{and_then, byte_of, word_from, word_of}
@@ -79,9 +81,16 @@ pub record Ends (rest : List ℕ) : Type 0 where
   pub no_digit : is_in_range 48 57 (get_or rest 0 0) ≡ false
   pub no_letter : is_in_range 97 122 (get_or rest 0 0) ≡ false
 
+counted : (b : Bool) (c : ℕ) (cs : List ℕ) → length (cond b (c ∷ cs) []) ≡ cond b (suc (length cs)) 0
+counted true c cs = refl
+counted false c cs = refl
+
+front_cons : (low high c : ℕ) (cs : List ℕ) → front low high (c ∷ cs) ≡ cond (is_in_range low high c) (suc (front low high cs)) 0
+front_cons low high c cs = ap length (take_while-cons (is_in_range low high) c cs) ∙ counted (is_in_range low high c) c (take_while (is_in_range low high) cs)
+
 front_of : (low high : ℕ) (rest : List ℕ) → 0 < low → is_in_range low high (get_or rest 0 0) ≡ false → front low high rest ≡ 0
 front_of low high [] some e = refl
-front_of low high (c ∷ cs) some e = cond-false _ _ _ e
+front_of low high (c ∷ cs) some e = front_cons low high c cs ∙ cond-false _ _ _ e
 
 -- every byte lies from low to high
 abbrev pub all_within : ℕ → ℕ → List ℕ → Bool
@@ -92,7 +101,7 @@ pub front_run : (low high : ℕ) (ds rest : List ℕ) → 0 < low → all_within
 front_run low high [] rest some d ends = front_of low high rest some ends
 front_run low high (c ∷ cs) rest some d ends =
     let both = and_parts (is_in_range low high c) (all_within low high cs) d in
-    cond-true _ _ _ both.0 ∙ ap suc (front_run low high cs rest some both.1 ends)
+    front_cons low high c (cs ++ rest) ∙ cond-true _ _ _ both.0 ∙ ap suc (front_run low high cs rest some both.1 ends)
 
 digits_run : (ds : List ℕ) → all_ascii_digits ds ≡ true → all_within 48 57 ds ≡ true
 digits_run [] d = refl
