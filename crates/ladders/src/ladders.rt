@@ -93,10 +93,7 @@ impl<'a> Ladders<'a> {
     pub fn answer(&mut self, line: Option<&[u8]>) -> Result<(), Refusal>
         ensures { Answering (option_map (λ x. x.now) line.entry) self.old self.new result }
     {
-        let Some(bytes) = line else {
-            return Err(Refusal::NoForm);
-        };
-        match read_call(bytes) {
+        match read_call(line.ok_or(Refusal::NoForm)?) {
             Some(Call::Enter { zone, side, bid }) => self.enter(zone, side, bid),
             _ => Err(Refusal::NoForm),
         }
