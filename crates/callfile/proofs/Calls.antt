@@ -16,14 +16,15 @@ use Rattle.market.specs.declared.zone.Side.{Side}
 use Rattle.market.specs.declared.zone.Side.TheVariants.{Sale, Purchase}
 use Rattle.callfile.specs.Forms.{Reading, past, both, made, bracketed, field_of, side_named, side_of, bid_from, bid_of, key_from, key_of, call_named, named_of, call_of}
 use Rattle.callfile.specs.Reading.{and_then, word_of}
-use Rattle.callfile.specs.Text.{side_text, bid_text, key_text, text, Short, ShortPrice, ShortBid, ShortKey, Writable, Reads}
+use Rattle.market.specs.Answers.{bid_text}
+use Rattle.market.specs.Zones.{side_text}
+use Rattle.callfile.specs.Text.{key_text, text, Short, ShortPrice, ShortBid, ShortKey, Writable, Reads}
 use Rattle.callfile.proofs.Laws.{Lawful, past_lawful, until_lawful, both_lawful, made_lawful, number_lawful, field_lawful, space, opening, closing}
 use Rattle.callfile.proofs.Prices.{price_lawful}
 use Rattle.callfile.proofs.Tokens.{and_then_some, mapped_some, cond_ways, cond_some, word_sound, word_complete, all_within, Ends}
 
 -- a side
 named_side : (name : List ℕ) (s : Side) → side_named name ≡ Some s → name ≡ side_text s
-unfolding side_text
 named_side name s e =
     ⊎_elim
     (λ w. (bytes_eq-Decides name (codes "sale")).0 w.0 ∙ (let is : Sale ≡ s = let h = w.1 in cc in ap side_text is))
@@ -33,7 +34,6 @@ named_side name s e =
     (cond_ways (bytes_eq name (codes "sale")) (Some Sale) _ s e)
 
 side_complete : (s : Side) (rest : List ℕ) → Ends rest → side_of (side_text s ++ rest) ≡ Some (s, rest)
-unfolding side_text
 side_complete Sale rest ends = ap (λ o. and_then o (λ p. option_map (λ x. (x, p.1)) (side_named p.0))) (word_complete (codes "sale") rest refl (omega arith) ends)
 side_complete Purchase rest ends = ap (λ o. and_then o (λ p. option_map (λ x. (x, p.1)) (side_named p.0))) (word_complete (codes "purchase") rest refl (omega arith) ends)
 
@@ -316,7 +316,6 @@ price_short (pos n) h = let most : n < 10 ^ 9 = omega (arith, ints) in let d : l
 price_short (negsuc n) h = let most : suc n < 10 ^ 9 = omega (arith, ints) in let d : length (decimal (suc n)) ≤ 9 = length-decimal-le 9 (suc n) (omega arith) most (omega arith) in omega arith
 
 side_short : (s : Side) → length (side_text s) ≤ 8
-unfolding side_text
 side_short Sale = omega arith
 side_short Purchase = omega arith
 

@@ -9,7 +9,7 @@ use Rattle.market.specs.Refusals.{refusal_number}
 abbrev pub refusal_text : Refusal → List ℕ
 refusal_text why = codes "(no " ++ (decimal (refusal_number why) ++ codes ")")
 
-abbrev pub bid_text : Bid → List ℕ
+unfoldable pub bid_text : Bid → List ℕ
 bid_text b =
     codes "(" ++ (decimal b.agent ++ (codes " " ++ (decimal b.unit ++ (codes " " ++ (decimal b.number
     ++ (codes " " ++ (decimal b.stamp ++ (codes " " ++ (signed_decimal b.price ++ (codes " " ++ (decimal b.volume ++ codes ")")))))))))))

@@ -27,6 +27,7 @@ pub struct Bid {
 impl fmt::Display for Bid {
     ghost output = { λ b. Some (bid_text b) };
 
+    #[tactic(auto, unfolding(crate::specs::Answers::bid_text))]
     fn fmt<W: fmt::Write>(&self, f: &mut fmt::Formatter<W>) -> fmt::Result {
         let Bid {
             agent,
