@@ -3,6 +3,7 @@ ghost use Rattle.callfile.specs.Reading.{digits_from, negative_of, numeral_of, s
 ghost use Rattle.std.specs.Prelude.{◌≡◌, ◌^◌, ◌<◌, ◌≤◌, length, IfSome};
 
 // The number that at most nine digits write.
+#[tactic(auto, using(crate::proofs::Numerals::digit_steps))]
 fn value(digits: &[u8]) -> Option<u32>
     requires { length digits.now ≤ 9 }
     ensures value { result ≡ digits_from 0 digits.now }
