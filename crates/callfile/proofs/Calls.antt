@@ -1,5 +1,5 @@
 -- A line is read as a call exactly if it is the call's text.
-use Rattle.std.proofs.Common.{◌≡◌, ℕ, suc, ◌^◌, ◌<◌, ◌≤◌, true, cond, eqb, List, [], ◌∷◌, ◌++◌, length, ℤ, pos, negsuc, Some, None, codes, decimal, Option, sym, refl, ap, ◌∙◌, subst, ⊎_elim, append_assoc, append-nil, arith}
+use Rattle.std.proofs.Common.{◌≡◌, ℕ, suc, ◌^◌, ◌<◌, ◌≤◌, true, cond, eqb, List, [], ◌∷◌, ◌++◌, length, ℤ, pos, negsuc, Some, None, codes, decimal, Option, sym, refl, ap, ◌∙◌, subst, append_assoc, append-nil, arith}
 use Rattle.std.specs.Option.{option_map}
 use Rattle.std.specs.Fmt.{signed_decimal}
 use Rattle.std.specs.Str.{bytes_eq}
@@ -7,6 +7,7 @@ use Rattle.std.proofs.lemmas.Fmt.{length-decimal-le}
 use Rattle.std.proofs.lemmas.Slice.Eq.{bytes_eq-Decides}
 use Rattle.std.proofs.lemmas.List.{length-append, nil_from_length}
 use Rattle.std.proofs.lemmas.Int.{ints}
+use Rattle.std.proofs.lemmas.Option.{none-some, same_Some}
 use Rattle.std.proofs.lemmas.Bool.{eqb-true}
 use Rattle.market.specs.declared.block.Bid.{Bid}
 use Rattle.market.specs.declared.block.BlockKey.{BlockKey}
@@ -16,24 +17,21 @@ use Rattle.market.specs.declared.zone.Side.{Side}
 use Rattle.market.specs.declared.zone.Side.TheVariants.{Sale, Purchase}
 use Rattle.callfile.specs.Forms.{Reading, past, both, made, bracketed, field_of, side_named, side_of, bid_from, bid_of, key_from, key_of, call_named, named_of, call_of}
 use Rattle.callfile.specs.Reading.{and_then, word_of}
-use Rattle.callfile.specs.Text.{side_text, bid_text, key_text, text, Short, ShortPrice, ShortBid, ShortKey, Writable, Reads}
+use Rattle.market.specs.Answers.{bid_text}
+use Rattle.market.specs.Zones.{side_text}
+use Rattle.callfile.specs.Text.{key_text, text, Short, ShortPrice, ShortBid, ShortKey, Writable, Reads}
 use Rattle.callfile.proofs.Laws.{Lawful, past_lawful, until_lawful, both_lawful, made_lawful, number_lawful, field_lawful, space, opening, closing}
 use Rattle.callfile.proofs.Prices.{price_lawful}
-use Rattle.callfile.proofs.Tokens.{and_then_some, mapped_some, cond_ways, cond_some, word_sound, word_complete, all_within, Ends}
+use Rattle.callfile.proofs.Tokens.{and_then_some, mapped_some, by_cases, cond_some, word_sound, word_complete, all_within, Ends}
 
 -- a side
 named_side : (name : List ℕ) (s : Side) → side_named name ≡ Some s → name ≡ side_text s
-unfolding side_text
-named_side name s e =
-    ⊎_elim
-    (λ w. (bytes_eq-Decides name (codes "sale")).0 w.0 ∙ (let is : Sale ≡ s = let h = w.1 in cc in ap side_text is))
-    (λ v.
-    let w = cond_some (bytes_eq name (codes "purchase")) (Some Purchase) s v.1 in
-    (bytes_eq-Decides name (codes "purchase")).0 w.0 ∙ (let is : Purchase ≡ s = let h = w.1 in cc in ap side_text is))
-    (cond_ways (bytes_eq name (codes "sale")) (Some Sale) _ s e)
+named_side name s =
+    by_cases (bytes_eq name (codes "sale")) _ _ s (λ is e. (bytes_eq-Decides name (codes "sale")).0 is ∙ ap side_text (same_Some _ _ e))
+    (λ _. by_cases (bytes_eq name (codes "purchase")) _ _ s (λ is e. (bytes_eq-Decides name (codes "purchase")).0 is ∙ ap side_text (same_Some _ _ e))
+    (λ _ e. absurd (none-some _ e)))
 
 side_complete : (s : Side) (rest : List ℕ) → Ends rest → side_of (side_text s ++ rest) ≡ Some (s, rest)
-unfolding side_text
 side_complete Sale rest ends = ap (λ o. and_then o (λ p. option_map (λ x. (x, p.1)) (side_named p.0))) (word_complete (codes "sale") rest refl (omega arith) ends)
 side_complete Purchase rest ends = ap (λ o. and_then o (λ p. option_map (λ x. (x, p.1)) (side_named p.0))) (word_complete (codes "purchase") rest refl (omega arith) ends)
 
@@ -240,22 +238,16 @@ unfolding Writable
 annul_form = name_form (codes "annul") Annul refl (omega arith) (λ rest. refl) tt refl
 
 call_named_sound : (name rest : List ℕ) (c : Call) (left : List ℕ) → call_named name rest ≡ Some (c, left) → Writable c × (name ++ rest ≡ inner c ++ left)
-call_named_sound name rest c left e =
-    ⊎_elim (λ w. form_sound admit_form name rest c left w.0 w.1)
-    (λ v. ⊎_elim (λ w. form_sound begin_form name rest c left w.0 w.1)
-    (λ v. ⊎_elim (λ w. form_sound enter_form name rest c left w.0 w.1)
-    (λ v. ⊎_elim (λ w. form_sound withdraw_form name rest c left w.0 w.1)
-    (λ v. ⊎_elim (λ w. form_sound close_form name rest c left w.0 w.1)
-    (λ v. ⊎_elim (λ w. form_sound clear_form name rest c left w.0 w.1)
-    (λ v. ⊎_elim (λ w. form_sound settle_form name rest c left w.0 w.1)
-    (λ v. let w = cond_some (bytes_eq name (codes "annul")) (Some (Annul, rest)) (c, left) v.1 in form_sound annul_form name rest c left w.0 w.1)
-    (cond_ways (bytes_eq name (codes "settle")) _ _ (c, left) v.1))
-    (cond_ways (bytes_eq name (codes "clear")) _ _ (c, left) v.1))
-    (cond_ways (bytes_eq name (codes "close")) _ _ (c, left) v.1))
-    (cond_ways (bytes_eq name (codes "withdraw")) _ _ (c, left) v.1))
-    (cond_ways (bytes_eq name (codes "enter")) _ _ (c, left) v.1))
-    (cond_ways (bytes_eq name (codes "begin")) _ _ (c, left) v.1))
-    (cond_ways (bytes_eq name (codes "admit")) _ _ (c, left) e)
+call_named_sound name rest c left =
+    by_cases (bytes_eq name (codes "admit")) _ _ (c, left) (form_sound admit_form name rest c left)
+    (λ _. by_cases (bytes_eq name (codes "begin")) _ _ (c, left) (form_sound begin_form name rest c left)
+    (λ _. by_cases (bytes_eq name (codes "enter")) _ _ (c, left) (form_sound enter_form name rest c left)
+    (λ _. by_cases (bytes_eq name (codes "withdraw")) _ _ (c, left) (form_sound withdraw_form name rest c left)
+    (λ _. by_cases (bytes_eq name (codes "close")) _ _ (c, left) (form_sound close_form name rest c left)
+    (λ _. by_cases (bytes_eq name (codes "clear")) _ _ (c, left) (form_sound clear_form name rest c left)
+    (λ _. by_cases (bytes_eq name (codes "settle")) _ _ (c, left) (form_sound settle_form name rest c left)
+    (λ _. by_cases (bytes_eq name (codes "annul")) _ _ (c, left) (form_sound annul_form name rest c left)
+    (λ _ e. absurd (none-some _ e)))))))))
 
 named_complete : (c : Call) (rest : List ℕ) → Writable c → Ends rest → named_of (inner c ++ rest) ≡ Some (c, rest)
 named_complete (Admit agent) = form_complete admit_form agent
@@ -316,7 +308,6 @@ price_short (pos n) h = let most : n < 10 ^ 9 = omega (arith, ints) in let d : l
 price_short (negsuc n) h = let most : suc n < 10 ^ 9 = omega (arith, ints) in let d : length (decimal (suc n)) ≤ 9 = length-decimal-le 9 (suc n) (omega arith) most (omega arith) in omega arith
 
 side_short : (s : Side) → length (side_text s) ≤ 8
-unfolding side_text
 side_short Sale = omega arith
 side_short Purchase = omega arith
 

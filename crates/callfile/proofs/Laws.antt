@@ -1,6 +1,7 @@
 -- A reading is lawful if it takes just the texts of the fitting values from the front of a line.
 use Rattle.std.proofs.Common.{◌≡◌, ℕ, ◌<◌, List, [], ◌∷◌, ◌++◌, Some, decimal, Option, sym, refl, ap, ◌∙◌, subst, append_assoc, arith}
 use Rattle.std.specs.Option.{option_map}
+use Rattle.std.proofs.lemmas.Option.{none-some, same_Some}
 use Rattle.callfile.specs.Forms.{Reading, past, until, both, made}
 use Rattle.callfile.specs.Reading.{and_then, byte_of, number_of, value_from, value_of}
 use Rattle.callfile.specs.Tokens.{Part, open_part, close_part, word_part, number_part, token_of}
@@ -93,29 +94,37 @@ module _ {A B : Type 0} {f : Reading A} {w : A → List ℕ} {F : A → Type 0} 
             ∙ ap (λ x. Some (x, rest)) (back b);
       }
 
+-- only a number has a value
+numbered : {A : Type 0} (value : List ℕ → Option A) (part : Part) (left : List ℕ) (p : A × List ℕ) → value_from value part left ≡ Some p → (w : List ℕ) × (part ≡ number_part w) × (value w ≡ Some p.0) × (left ≡ p.1)
+numbered value open_part left p e = absurd (none-some _ e)
+numbered value close_part left p e = absurd (none-some _ e)
+numbered value (word_part w) left p e = absurd (none-some _ e)
+numbered {A} value (number_part w) left p e =
+    let found = mapped_some _ (value w) p e in
+    (w, refl, found.1 ∙ ap (λ (q : A × List ℕ). Some q.0) found.2, ap (λ (q : A × List ℕ). q.1) found.2)
+
 -- a numeral that comes first, and its value
 module _ {A : Type 0} {value : List ℕ → Option A} {w : A → List ℕ} {Fit : A → Type 0} (sound : (ds : List ℕ) (a : A) → value ds ≡ Some a → Fit a × (ds ≡ w a)) (complete : (a : A) → Fit a → value (w a) ≡ Some a) (first : (a : A) (rest : List ℕ) → Fit a → Ends rest → token_of (w a ++ rest) ≡ Some (number_part (w a), rest)) where
-  from_sound : (part : Part) (left : List ℕ) (a : A) (rest : List ℕ) → value_from value part left ≡ Some (a, rest) → Fit a × (bytes_of part ≡ w a) × (left ≡ rest)
-  from_sound open_part left a rest e = absurd (let z : ◌≡◌ {A = ℕ} 0 1 = cc in omega arith)
-  from_sound close_part left a rest e = absurd (let z : ◌≡◌ {A = ℕ} 0 1 = cc in omega arith)
-  from_sound (word_part text) left a rest e = absurd (let z : ◌≡◌ {A = ℕ} 0 1 = cc in omega arith)
-  from_sound (number_part text) left a rest e =
-      let found = mapped_some _ (value text) (a, rest) e in
-      let same : found.0 ≡ a = ap (λ (q : A × List ℕ). q.0) found.2 in
-      let is = sound text found.0 found.1 in
-      (subst Fit same is.0, is.1 ∙ ap w same, ap (λ (q : A × List ℕ). q.1) found.2)
-
   pub value_lawful : Lawful (value_of value) w Fit
   value_lawful =
       record {
         sound = λ bs a rest e.
             let part = and_then_some (token_of bs) (λ q. value_from value q.0 q.1) (a, rest) e in
-            let is = from_sound part.0.0 part.0.1 a rest part.2 in
-            (is.0, token_sound bs part.0 part.1 ∙ (λ i. is.1 i ++ is.2 i));
+            let is = numbered value part.0.0 part.0.1 (a, rest) part.2 in
+            let fits = sound is.0 a is.2 in
+            (fits.0, token_sound bs part.0 part.1 ∙ (λ i. bytes_of (is.1 i) ++ is.3 i) ∙ ap (λ l. l ++ rest) fits.1);
         complete = λ a rest fits ends.
             ap (λ o. and_then o (λ q. value_from value q.0 q.1)) (first a rest fits ends)
             ∙ ap (λ o. option_map (λ x. (x, rest)) o) (complete a fits);
       }
+
+-- the value of a text that was read first
+pub text_value : {A : Type 0} (value : List ℕ → Option A) (bs text rest : List ℕ) (a : A) → value_of Some bs ≡ Some (text, rest) → value text ≡ Some a → value_of value bs ≡ Some (a, rest)
+text_value value bs text rest a read is =
+    let part = and_then_some (token_of bs) (λ q. value_from Some q.0 q.1) (text, rest) read in
+    let n = numbered Some part.0.0 part.0.1 (text, rest) part.2 in
+    ap (λ o. and_then o (λ q. value_from value q.0 q.1)) part.1 ∙ (λ i. value_from value (n.1 i) (n.3 i))
+    ∙ ap (λ o. option_map (λ x. (x, rest)) o) (ap value (same_Some _ _ n.2) ∙ is)
 
 pub number_lawful : Lawful number_of decimal Short
 number_lawful =

@@ -1,6 +1,4 @@
 pub mod Calls
-pub mod Fronts
-pub mod Growing
 pub mod Laws
 pub mod Numerals
 pub mod Prices

@@ -40,6 +40,8 @@ below_nine v i small le =
     let most : 10 ^ i ≤ 10 ^ 9 = pow-le-pow_right (omega arith) le in
     omega arith
 
+pub ruleset digit_steps = (digits_stop, digits_more, digits_end, one_more, below_nine)
+
 abbrev read_on : ℕ → List ℕ → ℕ
 read_on n [] = n
 read_on n (c ∷ cs) = read_on (n * 10 + (c - 48)) cs

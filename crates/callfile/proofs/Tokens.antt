@@ -1,28 +1,31 @@
 -- What the first part of a line says of the line.
-use Rattle.std.proofs.Common.{◌≡◌, ℕ, suc, ◌+◌, ◌<◌, ◌≤◌, Bool, true, false, cond, ◌&&◌, eqb, leb, ◌⊎◌, List, [], ◌∷◌, ◌++◌, length, get_or, take, drop, Some, None, Option, sym, refl, ap, ◌∙◌, subst, inl, inr, ⊎_elim, arith}
+use Rattle.std.proofs.Common.{◌≡◌, ℕ, suc, ◌+◌, ◌<◌, ◌≤◌, Bool, true, false, cond, ◌&&◌, eqb, leb, List, [], ◌∷◌, ◌++◌, length, get_or, take, drop, Some, None, Option, sym, refl, ap, ◌∙◌, subst, arith}
 use Rattle.std.specs.Option.{option_map}
 use Rattle.std.specs.Int.{is_in_range}
 use Rattle.std.specs.Str.{all_ascii_digits}
+use Rattle.std.specs.List.{take_while}
+use Rattle.std.proofs.lemmas.List.Sums.{take_while-cons}
 use Rattle.std.proofs.lemmas.List.{take-append-drop, take_at, drop_at}
 use Rattle.std.proofs.lemmas.Bool.{eqb-true, eq-eqb, ne_eqb, leb-true, and_parts, lt-leb, and_from, and_left, cond-true, cond-false}
+use Rattle.std.proofs.lemmas.Option.{none-some}
 use Rattle.callfile.specs.Reading.{and_then, byte_of, word_from, word_of}
 use Rattle.callfile.specs.Tokens.{front, Part, open_part, close_part, word_part, number_part, token_of, token_at, run_part, signed_part}
 
 -- a step that came to an answer
 pub and_then_some : {A B : Type 0} (o : Option A) (f : A → Option B) (y : B) → and_then o f ≡ Some y → (x : A) × (o ≡ Some x) × (f x ≡ Some y)
-and_then_some None f y e = absurd (let z : ◌≡◌ {A = ℕ} 0 1 = cc in omega arith)
+and_then_some None f y e = absurd (none-some _ e)
 and_then_some (Some x) f y e = (x, refl, e)
 
 pub mapped_some : {A B : Type 0} (f : A → B) (o : Option A) (y : B) → option_map f o ≡ Some y → (x : A) × (o ≡ Some x) × (f x ≡ y)
-mapped_some f None y e = absurd (let z : ◌≡◌ {A = ℕ} 0 1 = cc in omega arith)
+mapped_some f None y e = absurd (none-some _ e)
 mapped_some f (Some x) y e = (x, refl, cc)
 
 pub cond_some : {A : Type 0} (b : Bool) (o : Option A) (y : A) → cond b o None ≡ Some y → (b ≡ true) × (o ≡ Some y)
 cond_some true o y e = (refl, e)
-cond_some false o y e = absurd (let z : ◌≡◌ {A = ℕ} 0 1 = cc in omega arith)
+cond_some false o y e = absurd (none-some _ e)
 
 pub cond_none : {A : Type 0} (b : Bool) (o : Option A) (y : A) → cond b None o ≡ Some y → (b ≡ false) × (o ≡ Some y)
-cond_none true o y e = absurd (let z : ◌≡◌ {A = ℕ} 0 1 = cc in omega arith)
+cond_none true o y e = absurd (none-some _ e)
 cond_none false o y e = (refl, e)
 
 -- a byte at the front
@@ -44,9 +47,9 @@ bytes_of close_part = 41 ∷ []
 bytes_of (word_part w) = w
 bytes_of (number_part w) = w
 
-pub cond_ways : {A : Type 0} (b : Bool) (x y : Option A) (z : A) → cond b x y ≡ Some z → ((b ≡ true) × (x ≡ Some z)) ⊎ ((b ≡ false) × (y ≡ Some z))
-cond_ways true x y z e = inl (refl, e)
-cond_ways false x y z e = inr (refl, e)
+pub by_cases : {A P : Type 0} (b : Bool) (x y : Option A) (z : A) → (b ≡ true → x ≡ Some z → P) → (b ≡ false → y ≡ Some z → P) → cond b x y ≡ Some z → P
+by_cases true x y z first second e = first refl e
+by_cases false x y z first second e = second refl e
 
 pub marked : (b : ℕ) → 0 < b → (bs : List ℕ) → eqb (get_or bs 0 0) b ≡ true → bs ≡ b ∷ drop 1 bs
 marked b some bs e = byte_sound b some bs (drop 1 bs) (cond-true _ _ _ e)
@@ -63,25 +66,29 @@ one_byte part bs p whole e =
 
 -- a line is its first part and what follows that
 pub token_sound : (bs : List ℕ) (p : Part × List ℕ) → token_of bs ≡ Some p → bs ≡ bytes_of p.0 ++ p.1
-token_sound bs p e =
-    ⊎_elim (λ w. one_byte open_part bs p (marked 40 (omega arith) bs w.0) w.1)
-    (λ v. ⊎_elim (λ w. one_byte close_part bs p (marked 41 (omega arith) bs w.0) w.1)
-    (λ v. ⊎_elim (λ w. run_sound word_part (λ w. refl) (front 97 122 bs) bs p w.1)
-    (λ v. ⊎_elim (λ w. run_sound number_part (λ w. refl) (front 48 57 bs) bs p w.1)
-    (λ v. run_sound number_part (λ w. refl) (front 48 57 (drop 1 bs) + 1) bs p (cond_none (eqb (front 48 57 (drop 1 bs)) 0) _ _ (cond_some (eqb (get_or bs 0 0) 45) _ _ v.1).1).1)
-    (cond_ways (is_in_range 48 57 (get_or bs 0 0)) _ _ p v.1))
-    (cond_ways (is_in_range 97 122 (get_or bs 0 0)) _ _ p v.1))
-    (cond_ways (eqb (get_or bs 0 0) 41) _ _ p v.1))
-    (cond_ways (eqb (get_or bs 0 0) 40) _ _ p e)
+token_sound bs p =
+    let c = get_or bs 0 0 in
+    by_cases (eqb c 40) _ _ p (λ is. one_byte open_part bs p (marked 40 (omega arith) bs is))
+    (λ _. by_cases (eqb c 41) _ _ p (λ is. one_byte close_part bs p (marked 41 (omega arith) bs is))
+    (λ _. by_cases (is_in_range 97 122 c) _ _ p (λ _. run_sound word_part (λ w. refl) (front 97 122 bs) bs p)
+    (λ _. by_cases (is_in_range 48 57 c) _ _ p (λ _. run_sound number_part (λ w. refl) (front 48 57 bs) bs p)
+    (λ _ e. run_sound number_part (λ w. refl) (front 48 57 (drop 1 bs) + 1) bs p (cond_none (eqb (front 48 57 (drop 1 bs)) 0) _ _ (cond_some (eqb c 45) _ _ e).1).1))))
 
 -- no digit and no letter comes first
 pub record Ends (rest : List ℕ) : Type 0 where
   pub no_digit : is_in_range 48 57 (get_or rest 0 0) ≡ false
   pub no_letter : is_in_range 97 122 (get_or rest 0 0) ≡ false
 
+counted : (b : Bool) (c : ℕ) (cs : List ℕ) → length (cond b (c ∷ cs) []) ≡ cond b (suc (length cs)) 0
+counted true c cs = refl
+counted false c cs = refl
+
+front_cons : (low high c : ℕ) (cs : List ℕ) → front low high (c ∷ cs) ≡ cond (is_in_range low high c) (suc (front low high cs)) 0
+front_cons low high c cs = ap length (take_while-cons (is_in_range low high) c cs) ∙ counted (is_in_range low high c) c (take_while (is_in_range low high) cs)
+
 front_of : (low high : ℕ) (rest : List ℕ) → 0 < low → is_in_range low high (get_or rest 0 0) ≡ false → front low high rest ≡ 0
 front_of low high [] some e = refl
-front_of low high (c ∷ cs) some e = cond-false _ _ _ e
+front_of low high (c ∷ cs) some e = front_cons low high c cs ∙ cond-false _ _ _ e
 
 -- every byte lies from low to high
 abbrev pub all_within : ℕ → ℕ → List ℕ → Bool
@@ -92,7 +99,7 @@ pub front_run : (low high : ℕ) (ds rest : List ℕ) → 0 < low → all_within
 front_run low high [] rest some d ends = front_of low high rest some ends
 front_run low high (c ∷ cs) rest some d ends =
     let both = and_parts (is_in_range low high c) (all_within low high cs) d in
-    cond-true _ _ _ both.0 ∙ ap suc (front_run low high cs rest some both.1 ends)
+    front_cons low high c (cs ++ rest) ∙ cond-true _ _ _ both.0 ∙ ap suc (front_run low high cs rest some both.1 ends)
 
 digits_run : (ds : List ℕ) → all_ascii_digits ds ≡ true → all_within 48 57 ds ≡ true
 digits_run [] d = refl
@@ -144,12 +151,12 @@ pub word_complete : (w rest : List ℕ) → all_within 97 122 w ≡ true → 0 <
 word_complete w rest d some ends = ap (λ o. and_then o (λ p. word_from p.0 p.1)) (token_run word_part 97 122 (omega arith) letter_ways w rest d some ends.no_letter)
 
 word_from_sound : (part : Part) (left : List ℕ) (p : List ℕ × List ℕ) → word_from part left ≡ Some p → bytes_of part ++ left ≡ p.0 ++ p.1
-word_from_sound open_part left p e = absurd (let z : ◌≡◌ {A = ℕ} 0 1 = cc in omega arith)
-word_from_sound close_part left p e = absurd (let z : ◌≡◌ {A = ℕ} 0 1 = cc in omega arith)
+word_from_sound open_part left p e = absurd (none-some _ e)
+word_from_sound close_part left p e = absurd (none-some _ e)
 word_from_sound (word_part w) left p e =
     let is : (w, left) ≡ p = cc in
     ap (λ (q : List ℕ × List ℕ). q.0 ++ q.1) is
-word_from_sound (number_part w) left p e = absurd (let z : ◌≡◌ {A = ℕ} 0 1 = cc in omega arith)
+word_from_sound (number_part w) left p e = absurd (none-some _ e)
 
 pub word_sound : (bs : List ℕ) (p : List ℕ × List ℕ) → word_of bs ≡ Some p → bs ≡ p.0 ++ p.1
 word_sound bs p e =

@@ -1,22 +1,12 @@
 -- The text of a call, as docs/CALLS.md gives it, which calls have one, and what it is to read a line. A reader must
--- believe this file, and that std's `decimal` and `signed_decimal` are what `{}` writes of a number.
+-- believe this file, the texts of a side and of a bid in market, and that std's `decimal` and `signed_decimal` are what `{}` writes of a number.
 use Rattle.std.specs.Prelude.{◌≡◌, ℕ, ◌≤◌, List, ◌++◌, ℤ, pos, negsuc, ◌≤ℤ◌, Some, None, codes, decimal, Option, ◌≢◌}
-use Rattle.std.specs.Fmt.{signed_decimal}
+use Rattle.market.specs.Answers.{bid_text}
+use Rattle.market.specs.Zones.{side_text}
 use Rattle.market.specs.declared.block.Bid.{Bid}
 use Rattle.market.specs.declared.block.BlockKey.{BlockKey}
 use Rattle.market.specs.declared.call.Call.{Call}
 use Rattle.market.specs.declared.call.Call.TheVariants.{Admit, Begin, Enter, Withdraw, Close, Clear, Settle, Annul}
-use Rattle.market.specs.declared.zone.Side.{Side}
-use Rattle.market.specs.declared.zone.Side.TheVariants.{Sale, Purchase}
-
-unfoldable pub side_text : Side → List ℕ
-side_text Sale = codes "sale"
-side_text Purchase = codes "purchase"
-
-unfoldable pub bid_text : Bid → List ℕ
-bid_text b =
-    codes "(" ++ decimal b.agent ++ codes " " ++ decimal b.unit ++ codes " " ++ decimal b.number
-    ++ codes " " ++ decimal b.stamp ++ codes " " ++ signed_decimal b.price ++ codes " " ++ decimal b.volume ++ codes ")"
 
 unfoldable pub key_text : BlockKey → List ℕ
 key_text k = codes "(" ++ decimal k.unit ++ codes " " ++ decimal k.number ++ codes ")"

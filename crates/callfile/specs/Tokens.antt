@@ -1,6 +1,6 @@
 -- The part that a line begins with. A reader of the token reader must believe this file, in which bytes are numbers:
 -- 40 is `(`, 41 is `)`, 45 is `-`, 48 to 57 are the digits and 97 to 122 the small letters.
-use Rattle.std.specs.Prelude.{ℕ, suc, ◌+◌, cond, List, [], ◌∷◌, take, drop, Some, None, Option, ◌==◌, slice_index}
+use Rattle.std.specs.Prelude.{ℕ, ◌+◌, cond, List, length, take, take_while, drop, Some, None, Option, ◌==◌, slice_index}
 use Rattle.std.specs.Borrow.{Bor}
 use Rattle.std.specs.Int.{is_in_range}
 use Rattle.callfile.specs.declared.token.Token.{Token}
@@ -25,8 +25,7 @@ seen_with p = (seen p.0, p.1.now)
 
 -- how many bytes at the front lie from low to high
 abbrev pub front : ℕ → ℕ → List ℕ → ℕ
-front low high [] = 0
-front low high (c ∷ cs) = cond (is_in_range low high c) (suc (front low high cs)) 0
+front low high bs = length (take_while (is_in_range low high) bs)
 
 -- the first n bytes are the part
 abbrev pub run_part : (List ℕ → Part) → ℕ → List ℕ → Option (Part × List ℕ)

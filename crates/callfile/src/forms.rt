@@ -1,74 +1,69 @@
 // The forms of the call file, part by part (docs/CALLS.md).
-ghost use Rattle.callfile.specs.Forms.{admit_of, begin_of, bid_of, bracketed, call_named, enter_of, field_of, key_of, named_of, side_named, side_of, withdraw_of};
+ghost use Rattle.callfile.specs.Forms.{admit_of, begin_of, bid_of, both, bracketed, call_named, enter_of, key_of, named_of, past, side_named, side_of, withdraw_of};
 ghost use Rattle.callfile.specs.Reading.{with_rest};
 ghost use Rattle.callfile.specs.Text.{Reads};
 ghost use Rattle.std.specs.Prelude.{◌≡◌, ◌<◌, length, None};
 ghost use Rattle.std.specs.Option.{option_map};
 
-use crate::number::{number, price};
-use crate::parts::{close, open, same, space, word};
+use crate::parts::{Part, after, field, word};
 use market::block::{Bid, BlockKey};
 use market::call::Call;
 use market::zone::Side;
 
-// A space and a number.
-fn field(line: &[u8]) -> Option<(u32, &[u8])>
-    ensures { option_map with_rest result ≡ field_of line.now }
-{
-    number(space(line)?)
-}
-
 fn side_named(name: &[u8]) -> Option<Side>
     ensures { result ≡ side_named name.now }
 {
-    if same(name, b"sale") {
+    let is = |word: &[u8]| name == word;
+    if is(b"sale") {
         Some(Side::Sale)
-    } else if same(name, b"purchase") {
+    } else if is(b"purchase") {
         Some(Side::Purchase)
     } else {
         None
     }
 }
 
-fn side(line: &[u8]) -> Option<(Side, &[u8])>
-    ensures { option_map with_rest result ≡ side_of line.now }
-{
-    let (name, rest) = word(line)?;
-    Some((side_named(name)?, rest))
+impl Part for Side {
+    ghost reading = { side_of };
+
+    fn read(line: &[u8]) -> Option<(Side, &[u8])> {
+        let (name, rest) = word(line)?;
+        Some((side_named(name)?, rest))
+    }
 }
 
 // (A U B T P V)
-fn bid(line: &[u8]) -> Option<(Bid, &[u8])>
-    ensures { option_map with_rest result ≡ bid_of line.now }
-{
-    let (agent, rest) = number(open(line)?)?;
-    let (unit, rest) = field(rest)?;
-    let (number, rest) = field(rest)?;
-    let (stamp, rest) = field(rest)?;
-    let (price, rest) = price(space(rest)?)?;
-    let (volume, rest) = field(rest)?;
-    let rest = close(rest)?;
-    Some((
-        Bid {
+impl Part for Bid {
+    ghost reading = { bid_of };
+
+    fn read(line: &[u8]) -> Option<(Bid, &[u8])> {
+        let (agent, rest) = u32::read(after(b'(', line)?)?;
+        let (unit, rest) = field(rest)?;
+        let (number, rest) = field(rest)?;
+        let (stamp, rest) = field(rest)?;
+        let (price, rest) = field(rest)?;
+        let (volume, rest) = field(rest)?;
+        let bid = Bid {
             agent,
             unit,
             number,
             stamp,
             price,
             volume,
-        },
-        rest,
-    ))
+        };
+        Some((bid, after(b')', rest)?))
+    }
 }
 
 // (U B)
-fn key(line: &[u8]) -> Option<(BlockKey, &[u8])>
-    ensures { option_map with_rest result ≡ key_of line.now }
-{
-    let (unit, rest) = number(open(line)?)?;
-    let (number, rest) = field(rest)?;
-    let rest = close(rest)?;
-    Some((BlockKey { unit, number }, rest))
+impl Part for BlockKey {
+    ghost reading = { key_of };
+
+    fn read(line: &[u8]) -> Option<(BlockKey, &[u8])> {
+        let (unit, rest) = u32::read(after(b'(', line)?)?;
+        let (number, rest) = field(rest)?;
+        Some((BlockKey { unit, number }, after(b')', rest)?))
+    }
 }
 
 fn admit(line: &[u8]) -> Option<(Call, &[u8])>
@@ -78,59 +73,63 @@ fn admit(line: &[u8]) -> Option<(Call, &[u8])>
     Some((Call::Admit { agent }, rest))
 }
 
+// Three fields.
+fn three<A: Part, B: Part, C: Part>(line: &[u8]) -> Option<((A, (B, C)), &[u8])>
+    ensures { option_map with_rest result ≡ both (past 32 A.Part.reading) (both (past 32 B.Part.reading) (past 32 C.Part.reading)) line.now }
+{
+    let (a, rest) = field(line)?;
+    let (b, rest) = field(rest)?;
+    let (c, rest) = field(rest)?;
+    Some(((a, (b, c)), rest))
+}
+
 fn begin(line: &[u8]) -> Option<(Call, &[u8])>
     ensures { option_map with_rest result ≡ begin_of line.now }
 {
-    let (session, rest) = field(line)?;
-    let (forward, rest) = field(rest)?;
-    let (backward, rest) = field(rest)?;
-    Some((
-        Call::Begin {
-            session,
-            forward,
-            backward,
-        },
-        rest,
-    ))
+    let ((session, (forward, backward)), rest) = three(line)?;
+    let call = Call::Begin {
+        session,
+        forward,
+        backward,
+    };
+    Some((call, rest))
 }
 
 fn enter(line: &[u8]) -> Option<(Call, &[u8])>
     ensures { option_map with_rest result ≡ enter_of line.now }
 {
-    let (zone, rest) = field(line)?;
-    let (side, rest) = side(space(rest)?)?;
-    let (bid, rest) = bid(space(rest)?)?;
+    let ((zone, (side, bid)), rest) = three(line)?;
     Some((Call::Enter { zone, side, bid }, rest))
 }
 
 fn withdraw(line: &[u8]) -> Option<(Call, &[u8])>
     ensures { option_map with_rest result ≡ withdraw_of line.now }
 {
-    let (zone, rest) = field(line)?;
-    let (side, rest) = side(space(rest)?)?;
-    let (key, rest) = key(space(rest)?)?;
+    let ((zone, (side, key)), rest) = three(line)?;
     Some((Call::Withdraw { zone, side, key }, rest))
 }
 
-// The call of that name, from what follows the name.
+// The call of that name, from what follows the name. It is no match: the proof of its last arm would have a case for each
+// byte at which the names part.
 fn call_named<'a>(name: &[u8], line: &'a [u8]) -> Option<(Call, &'a [u8])>
     ensures { option_map with_rest result ≡ call_named name.now line.now }
 {
-    if same(name, b"admit") {
+    let is = |word: &[u8]| name == word;
+    if is(b"admit") {
         admit(line)
-    } else if same(name, b"begin") {
+    } else if is(b"begin") {
         begin(line)
-    } else if same(name, b"enter") {
+    } else if is(b"enter") {
         enter(line)
-    } else if same(name, b"withdraw") {
+    } else if is(b"withdraw") {
         withdraw(line)
-    } else if same(name, b"close") {
+    } else if is(b"close") {
         Some((Call::Close, line))
-    } else if same(name, b"clear") {
+    } else if is(b"clear") {
         Some((Call::Clear, line))
-    } else if same(name, b"settle") {
+    } else if is(b"settle") {
         Some((Call::Settle, line))
-    } else if same(name, b"annul") {
+    } else if is(b"annul") {
         Some((Call::Annul, line))
     } else {
         None
@@ -141,10 +140,9 @@ fn call_named<'a>(name: &[u8], line: &'a [u8]) -> Option<(Call, &'a [u8])>
 fn bracketed_call(line: &[u8]) -> Option<(Call, &[u8])>
     ensures { option_map with_rest result ≡ bracketed named_of line.now }
 {
-    let (name, rest) = word(open(line)?)?;
+    let (name, rest) = word(after(b'(', line)?)?;
     let (call, rest) = call_named(name, rest)?;
-    let rest = close(rest)?;
-    Some((call, rest))
+    Some((call, after(b')', rest)?))
 }
 
 // The call whose text the line is. A line that is the text of no call is no form.
@@ -153,5 +151,5 @@ pub fn read_call(line: &[u8]) -> Option<Call>
     ensures long { 120 < length line.now → result ≡ None }
 {
     let (call, rest) = bracketed_call(line)?;
-    if rest.is_empty() { Some(call) } else { None }
+    rest.is_empty().then_some(call)
 }

@@ -1,16 +1,13 @@
 // A line as it comes in, byte by byte. It takes the same room however long the line is.
-ghost use Rattle.std.specs.Prelude.{◌≤◌};
+use arrayvec::ArrayVec;
 
 mod gather;
 
 // No form is longer.
 pub const LONGEST_LINE: usize = 120;
 
-// The first 120 bytes since the buffer was cleared, and whether more came.
+// The bytes since the buffer was cleared, or nothing if they are more than 120.
 #[derive(Drop)]
 pub struct LineBuffer {
-    bytes: [u8; LONGEST_LINE],
-    len: usize,
-    long: bool,
-    ghost within: { len ≤ 120 },
+    bytes: Option<ArrayVec<u8, LONGEST_LINE>>,
 }

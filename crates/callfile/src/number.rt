@@ -1,11 +1,9 @@
 // Numbers and prices, from their digits.
-ghost use Rattle.callfile.specs.Reading.{digits_from, negative_of, number_of, numeral_of, price_of, signed_of, with_rest};
+ghost use Rattle.callfile.specs.Reading.{digits_from, negative_of, numeral_of, signed_of};
 ghost use Rattle.std.specs.Prelude.{◌≡◌, ◌^◌, ◌<◌, ◌≤◌, length, IfSome};
-ghost use Rattle.std.specs.Option.{option_map};
-
-use crate::token::{Token, first_token};
 
 // The number that at most nine digits write.
+#[tactic(auto, using(crate::proofs::Numerals::digit_steps))]
 fn value(digits: &[u8]) -> Option<u32>
     requires { length digits.now ≤ 9 }
     ensures value { result ≡ digits_from 0 digits.now }
@@ -13,16 +11,16 @@ fn value(digits: &[u8]) -> Option<u32>
 {
     let mut value = 0;
     for digit in digits {
-        if *digit < b'0' || b'9' < *digit {
+        if !digit.is_ascii_digit() {
             return None;
         }
-        value = value * 10 + (*digit - b'0') as u32;
+        value = value * 10 + u32::from(*digit - b'0');
     }
     Some(value)
 }
 
 // The number that the text is the numeral of: one to nine digits, with no leading zero.
-fn numeral(text: &[u8]) -> Option<u32>
+pub fn numeral(text: &[u8]) -> Option<u32>
     ensures value { result ≡ numeral_of text.now }
     ensures short { IfSome result (λ n. n < 10 ^ 9) }
 {
@@ -44,31 +42,11 @@ fn negative(digits: &[u8]) -> Option<i32>
 }
 
 // The price that the text is the numeral of.
-fn signed(text: &[u8]) -> Option<i32>
+pub fn signed(text: &[u8]) -> Option<i32>
     ensures { result ≡ signed_of text.now }
 {
     match text {
         [b'-', digits @ ..] => negative(digits),
         digits => Some(numeral(digits)? as i32),
-    }
-}
-
-// The number at the front of the line, and what follows it.
-pub fn number(line: &[u8]) -> Option<(u32, &[u8])>
-    ensures { option_map with_rest result ≡ number_of line.now }
-{
-    match first_token(line)? {
-        (Token::Number(text), rest) => Some((numeral(text)?, rest)),
-        _ => None,
-    }
-}
-
-// The price at the front of the line, and what follows it.
-pub fn price(line: &[u8]) -> Option<(i32, &[u8])>
-    ensures { option_map with_rest result ≡ price_of line.now }
-{
-    match first_token(line)? {
-        (Token::Number(text), rest) => Some((signed(text)?, rest)),
-        _ => None,
     }
 }

@@ -1,34 +1,54 @@
 // The steps of the reader: each takes one part from the front of the line.
-ghost use Rattle.callfile.specs.Reading.{byte_of, word_of, word_with};
+ghost use Rattle.callfile.specs.Forms.{past};
+ghost use Rattle.callfile.specs.Reading.{byte_of, numeral_of, signed_of, value_of, with_rest, word_of, word_with};
 ghost use Rattle.std.specs.Option.{option_map};
-ghost use Rattle.std.specs.Str.{bytes_eq};
-ghost use Rattle.std.specs.Prelude.{◌≡◌};
+ghost use Rattle.std.specs.Prelude.{◌≡◌, ℕ, ◌<◌, List, Option, Some};
 
+use crate::number::{numeral, signed};
 use crate::token::{Token, first_token};
 
-pub fn open(line: &[u8]) -> Option<&[u8]>
-    ensures { option_map (λ x. x.now) result ≡ byte_of 40 line.now }
-{
-    match first_token(line)? {
-        (Token::Open, rest) => Some(rest),
-        _ => None,
+// What stands at the front of a line, as a value.
+pub trait Part: Sized + Drop {
+    ghost reading: { List ℕ → Option (Self × List ℕ) };
+
+    // The value, and what follows it.
+    fn read(line: &[u8]) -> Option<(Self, &[u8])>
+        ensures { option_map with_rest result ≡ reading line.now };
+}
+
+impl Part for u32 {
+    ghost reading = { value_of numeral_of };
+
+    fn read(line: &[u8]) -> Option<(u32, &[u8])> {
+        let (text, rest) = number(line)?;
+        Some((numeral(text)?, rest))
     }
 }
 
-pub fn close(line: &[u8]) -> Option<&[u8]>
-    ensures { option_map (λ x. x.now) result ≡ byte_of 41 line.now }
-{
-    match first_token(line)? {
-        (Token::Close, rest) => Some(rest),
-        _ => None,
+// A price, which may be below zero.
+impl Part for i32 {
+    ghost reading = { value_of signed_of };
+
+    fn read(line: &[u8]) -> Option<(i32, &[u8])> {
+        let (text, rest) = number(line)?;
+        Some((signed(text)?, rest))
     }
 }
 
-pub fn space(line: &[u8]) -> Option<&[u8]>
-    ensures { option_map (λ x. x.now) result ≡ byte_of 32 line.now }
+// A space and a part.
+pub fn field<P: Part>(line: &[u8]) -> Option<(P, &[u8])>
+    ensures { option_map with_rest result ≡ past 32 P.Part.reading line.now }
+{
+    P::read(after(b' ', line)?)
+}
+
+// What follows the mark.
+pub fn after(mark: u8, line: &[u8]) -> Option<&[u8]>
+    requires { 0 < mark }
+    ensures { option_map (λ x. x.now) result ≡ byte_of mark line.now }
 {
     match line {
-        [b' ', rest @ ..] => Some(rest),
+        [first, rest @ ..] if *first == mark => Some(rest),
         _ => None,
     }
 }
@@ -42,8 +62,12 @@ pub fn word(line: &[u8]) -> Option<(&[u8], &[u8])>
     }
 }
 
-pub fn same(name: &[u8], word: &[u8]) -> bool
-    ensures { result ≡ bytes_eq name.now word.now }
+// The text of a number, which may be no numeral. It differs from `word` in a pattern alone, and no parameter can stand for one.
+fn number(line: &[u8]) -> Option<(&[u8], &[u8])>
+    ensures { option_map word_with result ≡ value_of Some line.now }
 {
-    name == word
+    match first_token(line)? {
+        (Token::Number(text), rest) => Some((text, rest)),
+        _ => None,
+    }
 }

@@ -17,12 +17,9 @@ fn run(line: &[u8], low: u8, high: u8) -> usize
     ensures count { result ≡ front low high line.now }
     ensures within { result ≤ length line.now }
 {
-    for (i, byte) in line.iter().enumerate() {
-        if *byte < low || high < *byte {
-            return i;
-        }
-    }
-    line.len()
+    line.iter()
+        .take_while(|byte| (low..=high).contains(*byte))
+        .count()
 }
 
 // The part that the line begins with, and what follows it.

@@ -7,22 +7,25 @@ mod high_end;
 use auction::engine::{Clearing, Engine};
 use callfile::forms::read_call;
 use high_end::HighEnd;
+use ladders::answered::Answered;
 use ladders::ladders::{Ladder, Ladders};
-use market::block::{Bid, Block};
+use market::block::Block;
 use market::call::Call;
+use market::capacities::Capacities;
 use market::purchase::Purchase;
 use market::refusal::Refusal;
+use market::row::BlockRow;
 use market::sale::Sale;
+use market::zone::Zone;
 use period::clear_period;
 use rules::price::LowEnd;
 use rules::sharing::ByPrecedence;
 use service::{Service, serve};
 use std::io;
 use std::io::{BufWriter, Write};
+use table::table::Table;
 
 const PLACES: usize = 256;
-
-const MAX_CAPACITY: u32 = 30_000_000;
 
 const LOW: Engine<LowEnd, ByPrecedence> = Engine {
     price_rule: LowEnd,
@@ -34,25 +37,27 @@ const HIGH: Engine<HighEnd, ByPrecedence> = Engine {
     sharing_rule: ByPrecedence,
 };
 
-// The ladders of the period, and the capacities from zone 1 to zone 2 and back.
+// The ladders of the period, and the capacities from zone 1 to zone 2 and back. They are no `Capacities`: the borrow
+// checker does not cover a service that holds a `&mut` beside a struct with a ghost field.
 struct Desk<'a> {
     ladders: Ladders<'a>,
     forward: u32,
     backward: u32,
 }
 
+fn leave_none(ladder: &mut Ladder) {
+    ladder.sales.count = 0;
+    ladder.purchases.count = 0;
+}
+
 impl<'a> Desk<'a> {
     // Begins a period: no block stands.
     fn begin(&mut self, forward: u32, backward: u32) -> Result<(), Refusal> {
-        if forward > MAX_CAPACITY || backward > MAX_CAPACITY {
-            return Err(Refusal::CapacityLimit);
-        }
-        self.forward = forward;
-        self.backward = backward;
-        self.ladders.one.sales.count = 0;
-        self.ladders.one.purchases.count = 0;
-        self.ladders.two.sales.count = 0;
-        self.ladders.two.purchases.count = 0;
+        let capacities = Capacities::new(forward, backward)?;
+        self.forward = capacities.forward();
+        self.backward = capacities.backward();
+        leave_none(&mut self.ladders.one);
+        leave_none(&mut self.ladders.two);
         Ok(())
     }
 
@@ -65,39 +70,27 @@ impl<'a> Desk<'a> {
 }
 
 fn answer<W: Write>(out: &mut W, answer: Result<(), Refusal>) -> io::Result<()> {
-    match answer {
-        Ok(()) => writeln!(out, "(ok)"),
-        Err(why) => {
-            writeln!(out, "{why}")
-        }
-    }
+    let answer = Answered(answer);
+    writeln!(out, "{answer}")
 }
 
-fn show_block<W: Write>(out: &mut W, zone: u8, side: &str, block: &Block) -> io::Result<()> {
-    let Bid {
-        agent,
-        unit,
-        number,
-        stamp,
-        price,
-        volume,
-    } = block.bid;
-    let matched = block.matched;
-    writeln!(
-        out,
-        "(block {zone} {side} ({agent} {unit} {number} {stamp} {price} {volume}) {matched})"
-    )
+fn show_side<W: Write, R: BlockRow>(
+    out: &mut W,
+    zone: Zone,
+    table: &Table<R>,
+) -> io::Result<()> {
+    let side = R::side();
+    for row in table.rows.iter().take(table.count) {
+        let Block { bid, matched } = row.block();
+        writeln!(out, "(block {zone} {side} {bid} {matched})")?;
+    }
+    Ok(())
 }
 
 // The blocks of one zone in their order of precedence, each with what is matched of it.
-fn show<W: Write>(out: &mut W, zone: u8, ladder: &Ladder) -> io::Result<()> {
-    for sale in ladder.sales.rows.iter().take(ladder.sales.count) {
-        show_block(out, zone, "sale", &sale.block)?;
-    }
-    for purchase in ladder.purchases.rows.iter().take(ladder.purchases.count) {
-        show_block(out, zone, "purchase", &purchase.block)?;
-    }
-    Ok(())
+fn show<W: Write>(out: &mut W, zone: Zone, ladder: &Ladder) -> io::Result<()> {
+    show_side(out, zone, &ladder.sales)?;
+    show_side(out, zone, &ladder.purchases)
 }
 
 fn show_clearing<W: Write>(
@@ -106,27 +99,27 @@ fn show_clearing<W: Write>(
     high: &Clearing,
     ladders: &Ladders,
 ) -> io::Result<()> {
-    let (one, two) = (low.price_one, low.price_two);
+    let Clearing {
+        price_one,
+        price_two,
+        flow,
+        surplus,
+    } = *low;
     let (above_one, above_two) = (high.price_one, high.price_two);
-    let (flow, surplus) = (low.flow, low.surplus);
-    writeln!(out, "(bracket 1 {one} {above_one})")?;
-    writeln!(out, "(bracket 2 {two} {above_two})")?;
+    writeln!(out, "(bracket 1 {price_one} {above_one})")?;
+    writeln!(out, "(bracket 2 {price_two} {above_two})")?;
     writeln!(
         out,
-        "(cleared (price {one} {two}) (flow {flow}) (surplus {surplus}))"
+        "(cleared (price {price_one} {price_two}) (flow {flow}) (surplus {surplus}))"
     )?;
-    show(out, 1, &ladders.one)?;
-    show(out, 2, &ladders.two)
+    show(out, Zone::One, &ladders.one)?;
+    show(out, Zone::Two, &ladders.two)
 }
 
 impl<'a> Service for Desk<'a> {
     fn reply<W: Write>(self, out: &mut W, line: Option<&[u8]>) -> (Self, io::Result<()>) {
         let mut desk = self;
-        let call = match line {
-            Some(bytes) => read_call(bytes),
-            None => None,
-        };
-        let done = match call {
+        let done = match line.and_then(read_call) {
             Some(
                 Call::Begin {
                     session: _,
@@ -148,24 +141,12 @@ impl<'a> Service for Desk<'a> {
     }
 }
 
-fn blank() -> Block {
-    Block::unmatched(Bid {
-        agent: 0,
-        unit: 0,
-        number: 0,
-        stamp: 0,
-        price: 0,
-        volume: 0,
-    })
-}
-
 fn main(rt: HostRuntime) -> anyhow::Result<()> {
     let heap = rt.alloc();
-    let block = blank();
-    let mut sales_one = vec![in heap; Sale { block }; PLACES]?;
-    let mut purchases_one = vec![in heap; Purchase { block }; PLACES]?;
-    let mut sales_two = vec![in heap; Sale { block }; PLACES]?;
-    let mut purchases_two = vec![in heap; Purchase { block }; PLACES]?;
+    let mut sales_one = vec![in heap; Sale::default(); PLACES]?;
+    let mut purchases_one = vec![in heap; Purchase::default(); PLACES]?;
+    let mut sales_two = vec![in heap; Sale::default(); PLACES]?;
+    let mut purchases_two = vec![in heap; Purchase::default(); PLACES]?;
     let one = Ladder::new(&mut sales_one, &mut purchases_one);
     let two = Ladder::new(&mut sales_two, &mut purchases_two);
     let ladders = Ladders::new(one, two);

@@ -5,26 +5,18 @@ ghost use Rattle.ladders.specs.Ladders.{Answering};
 ghost use Rattle.market.specs.declared.refusal.Refusal.{Refusal};
 ghost use Rattle.std.specs.Prelude.{Result};
 
+use ladders::answered::Answered;
 use ladders::ladders::{Ladder, Ladders};
-use market::block::{Bid, Block};
 use market::purchase::Purchase;
+use market::row::BlockRow;
 use market::sale::Sale;
+use market::zone::Zone;
 use service::{Service, serve};
 use std::io;
 use std::io::{BufWriter, Write};
+use table::table::Table;
 
 const PLACES: usize = 256;
-
-fn blank() -> Block {
-    Block::unmatched(Bid {
-        agent: 0,
-        unit: 0,
-        number: 0,
-        stamp: 0,
-        price: 0,
-        volume: 0,
-    })
-}
 
 // The ladders, answering lines.
 struct Desk<'a> {
@@ -36,49 +28,36 @@ impl<'a> Service for Desk<'a> {
 
     fn reply<W: Write>(self, out: &mut W, line: Option<&[u8]>) -> (Self, io::Result<()>) {
         let Desk { mut ladders } = self;
-        let done = match ladders.answer(line) {
-            Ok(()) => writeln!(out, "(ok)"),
-            Err(why) => {
-                writeln!(out, "{why}")
-            }
-        };
-        (Desk { ladders }, done)
+        let answer = Answered(ladders.answer(line));
+        (Desk { ladders }, writeln!(out, "{answer}"))
     }
 }
 
-fn show_bid<W: Write>(out: &mut W, zone: u8, side: &str, bid: &Bid) -> io::Result<()> {
-    let Bid {
-        agent,
-        unit,
-        number,
-        stamp,
-        price,
-        volume,
-    } = *bid;
-    writeln!(
-        out,
-        "(block {zone} {side} ({agent} {unit} {number} {stamp} {price} {volume}))"
-    )
-}
-
-// The blocks of one zone in their order of precedence.
-fn show<W: Write>(out: &mut W, zone: u8, ladder: &Ladder) -> io::Result<()> {
-    for sale in ladder.sales.rows.iter().take(ladder.sales.count) {
-        show_bid(out, zone, "sale", &sale.block.bid)?;
-    }
-    for purchase in ladder.purchases.rows.iter().take(ladder.purchases.count) {
-        show_bid(out, zone, "purchase", &purchase.block.bid)?;
+fn show_side<W: Write, R: BlockRow>(
+    out: &mut W,
+    zone: Zone,
+    table: &Table<R>,
+) -> io::Result<()> {
+    let side = R::side();
+    for row in table.rows.iter().take(table.count) {
+        let bid = row.block().bid;
+        writeln!(out, "(block {zone} {side} {bid})")?;
     }
     Ok(())
 }
 
+// The blocks of one zone in their order of precedence.
+fn show<W: Write>(out: &mut W, zone: Zone, ladder: &Ladder) -> io::Result<()> {
+    show_side(out, zone, &ladder.sales)?;
+    show_side(out, zone, &ladder.purchases)
+}
+
 fn main(rt: HostRuntime) -> anyhow::Result<()> {
     let heap = rt.alloc();
-    let block = blank();
-    let mut sales_one = vec![in heap; Sale { block }; PLACES]?;
-    let mut purchases_one = vec![in heap; Purchase { block }; PLACES]?;
-    let mut sales_two = vec![in heap; Sale { block }; PLACES]?;
-    let mut purchases_two = vec![in heap; Purchase { block }; PLACES]?;
+    let mut sales_one = vec![in heap; Sale::default(); PLACES]?;
+    let mut purchases_one = vec![in heap; Purchase::default(); PLACES]?;
+    let mut sales_two = vec![in heap; Sale::default(); PLACES]?;
+    let mut purchases_two = vec![in heap; Purchase::default(); PLACES]?;
     let one = Ladder::new(&mut sales_one, &mut purchases_one);
     let two = Ladder::new(&mut sales_two, &mut purchases_two);
     let ladders = Ladders::new(one, two);
@@ -87,8 +66,8 @@ fn main(rt: HostRuntime) -> anyhow::Result<()> {
     let (desk, done) = serve(Desk { ladders }, &mut input, &mut out);
     let Desk { ladders } = desk;
     done?;
-    show(&mut out, 1, &ladders.one)?;
-    show(&mut out, 2, &ladders.two)?;
+    show(&mut out, Zone::One, &ladders.one)?;
+    show(&mut out, Zone::Two, &ladders.two)?;
     out.flush()?;
     Ok(())
 }

@@ -2,7 +2,7 @@
 ghost use Rattle.std.specs.Prelude.{◌≡◌};
 ghost use Rattle.market.specs.Refusals.{FirstCause};
 ghost use Rattle.std.specs.Option.{option_map};
-ghost use Rattle.ladders.specs.Ladders.{Answering, Entering, Placed, Put, SameLadder, of_zone, other_zone, row_causes, side_causes};
+ghost use Rattle.ladders.specs.Ladders.{Answering, Entering, Put, SameLadder, of_zone, other_zone, side_causes};
 
 use callfile::forms::read_call;
 use market::block::{Bid, Block};
@@ -11,7 +11,6 @@ use market::purchase::Purchase;
 use market::refusal::Refusal;
 use market::sale::Sale;
 use market::zone::{Side, Zone};
-use table::record::Record;
 use table::table::Table;
 
 // The two ladders of one zone.
@@ -25,15 +24,6 @@ pub struct Ladder<'a> {
 pub struct Ladders<'a> {
     pub one: Ladder<'a>,
     pub two: Ladder<'a>,
-}
-
-// Puts a row into its table.
-fn place<R: Record>(table: &mut Table<R>, row: R) -> Result<(), Refusal>
-    ensures why { FirstCause (row_causes R.order row table.old) result }
-    ensures after { Placed R.order row table.old table.new result }
-    ensures lent { table.new.rows.ghost_name ≡ table.old.rows.ghost_name }
-{
-    Ok(table.insert(row)?)
 }
 
 impl<'a> Ladder<'a> {
@@ -54,8 +44,8 @@ impl<'a> Ladder<'a> {
     {
         let block = Block::unmatched(bid);
         match side {
-            Side::Sale => place(&mut self.sales, Sale { block }),
-            Side::Purchase => place(&mut self.purchases, Purchase { block }),
+            Side::Sale => Ok(self.sales.insert(Sale { block })?),
+            Side::Purchase => Ok(self.purchases.insert(Purchase { block })?),
         }
     }
 }
@@ -93,10 +83,7 @@ impl<'a> Ladders<'a> {
     pub fn answer(&mut self, line: Option<&[u8]>) -> Result<(), Refusal>
         ensures { Answering (option_map (λ x. x.now) line.entry) self.old self.new result }
     {
-        let Some(bytes) = line else {
-            return Err(Refusal::NoForm);
-        };
-        match read_call(bytes) {
+        match read_call(line.ok_or(Refusal::NoForm)?) {
             Some(Call::Enter { zone, side, bid }) => self.enter(zone, side, bid),
             _ => Err(Refusal::NoForm),
         }

@@ -1,5 +1,6 @@
 // Bids and blocks. Volumes are in tenths of a MWh, prices in cents per MWh (docs/MARKET.md).
-ghost use Rattle.std.specs.Prelude.{◌≡◌, Decides};
+ghost use Rattle.std.specs.Prelude.{◌≡◌, Decides, Some};
+ghost use Rattle.market.specs.Answers.{bid_text};
 ghost use Rattle.market.specs.Limits.{BlockWithinLimits, KeyWithinLimits, NameWithinLimits};
 ghost use Rattle.market.specs.Entering.{bid_causes, fresh};
 ghost use Rattle.market.specs.Refusals.{FirstCause};
@@ -9,6 +10,7 @@ use crate::limits::{
     agent_within, number_within, price_within, stamp_within, unit_within, volume_within,
 };
 use crate::refusal::Refusal;
+use std::fmt;
 
 // What an agent enters.
 #[derive(Clone, Copy, PartialEq, Eq, Default)]
@@ -19,6 +21,24 @@ pub struct Bid {
     pub stamp: u32,
     pub price: i32,
     pub volume: u32,
+}
+
+// As a line of a call file writes it.
+impl fmt::Display for Bid {
+    ghost output = { λ b. Some (bid_text b) };
+
+    #[tactic(auto, unfolding(crate::specs::Answers::bid_text))]
+    fn fmt<W: fmt::Write>(&self, f: &mut fmt::Formatter<W>) -> fmt::Result {
+        let Bid {
+            agent,
+            unit,
+            number,
+            stamp,
+            price,
+            volume,
+        } = *self;
+        write!(f, "({agent} {unit} {number} {stamp} {price} {volume})")
+    }
 }
 
 // A bid as it stands in a table, with the part of its volume that is matched.

@@ -1,8 +1,8 @@
 -- Which lines of an input are answered. To believe: a line ends at its newline, which is byte 10, and is no part of it; every line that
 -- ends is answered in turn, and of a line of more than 120 bytes it is only known that it was too long.
-use Rattle.std.specs.Prelude.{◌≡◌, ℕ, Bool, true, false, cond, List, [], ◌∷◌, ◌++◌, Option, ◌==◌}
+use Rattle.std.specs.Prelude.{◌≡◌, ℕ, Bool, true, false, cond, List, [], ◌∷◌, ◌++◌, Some, None, Option, ◌==◌}
 use Rattle.callfile.specs.Gathering.{Holds, gathered}
-use Rattle.service.specs.declared.Reading.{Reading}
+use Rattle.callfile.specs.declared.line.LineBuffer.{LineBuffer}
 
 -- the lines that end within the bytes, where `line` is begun before them
 abbrev pub ended : List ℕ → List ℕ → List (List ℕ)
@@ -28,6 +28,7 @@ abbrev pub last_line : List ℕ → List (List ℕ)
 last_line [] = []
 last_line (byte ∷ line) = (byte ∷ line) ∷ []
 
--- the input stands within the line
-abbrev pub Within : Reading → List ℕ → Type 0
-Within r line = Holds r.buffer line × (r.begun ≡ is_begun line)
+-- the input stands within the line: the buffer holds it, and there is none where no byte of it was read
+abbrev pub Within : Option LineBuffer → List ℕ → Type 0
+Within None line = line ≡ []
+Within (Some b) line = Holds b line × (is_begun line ≡ true)

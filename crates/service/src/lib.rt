@@ -20,79 +20,61 @@ pub trait Service: Sized {
         ensures { turns self (option_map (λ x. x.now) line.entry) result.0 };
 }
 
-// Where the input stands: the line so far, and whether one is begun.
+// The line that is begun, if one is, and where answers go.
 #[derive(Drop)]
-struct Reading {
-    buffer: LineBuffer,
-    begun: bool,
+struct Input<'a, W> {
+    out: &'a mut W,
+    line: Option<LineBuffer>,
 }
 
-// Answers the line that was read, and begins a new one.
-fn end_line<S: Service, W: Write>(
-    service: S,
-    out: &mut W,
-    reading: &mut Reading,
-) -> (S, io::Result<()>)
-    ensures turned { (line : List ℕ) → Within reading.old line → S.turns service (gathered line) result.0 }
-    ensures anew { Within reading.new [] }
-{
-    let (next, done) = service.reply(out, reading.buffer.line());
-    reading.buffer.clear();
-    reading.begun = false;
-    (next, done)
-}
-
-// Takes a byte of the input.
-fn take_byte<S: Service, W: Write>(
-    service: S,
-    out: &mut W,
-    reading: &mut Reading,
-    byte: u8,
-) -> (S, io::Result<()>)
-    ensures answered { (line : List ℕ) → Within reading.old line → Answered S.turns service (ended line (byte ∷ [])) result.0 }
-    ensures within { (line : List ℕ) → Within reading.old line → Within reading.new (begun_after line (byte ∷ [])) }
-{
-    if byte == b'\n' {
-        return end_line(service, out, reading);
+// Each hands the service back, also where the output fails: so no step is ended by `?`.
+impl<'a, W: Write> Input<'a, W> {
+    // Answers the line that was read. None is begun after it.
+    fn end_line<S: Service>(&mut self, service: S) -> (S, io::Result<()>)
+        ensures turned { (line : List ℕ) → Within self.old.line line → S.turns service (gathered line) result.0 }
+        ensures anew { Within self.new.line [] }
+    {
+        let line = self.line.take().unwrap_or_else(LineBuffer::new);
+        service.reply(self.out, line.line())
     }
-    reading.buffer.push(byte);
-    reading.begun = true;
-    (service, Ok(()))
-}
 
-// Takes a piece of the input.
-fn take_piece<S: Service, W: Write>(
-    service: S,
-    out: &mut W,
-    reading: &mut Reading,
-    piece: &[u8],
-) -> (S, io::Result<()>)
-    ensures answered { (line : List ℕ) → Within reading.old line → OnOk result.1 (Answered S.turns service (ended line piece.now) result.0) }
-    ensures within { (line : List ℕ) → Within reading.old line → OnOk result.1 (Within reading.new (begun_after line piece.now)) }
-{
-    let mut service = service;
-    for byte in piece {
-        let (next, done) = take_byte(service, out, reading, *byte);
-        service = next;
-        if done.is_err() {
-            return (service, done);
+    // Takes a byte of the input.
+    fn take_byte<S: Service>(&mut self, service: S, byte: u8) -> (S, io::Result<()>)
+        ensures answered { (line : List ℕ) → Within self.old.line line → Answered S.turns service (ended line (byte ∷ [])) result.0 }
+        ensures within { (line : List ℕ) → Within self.old.line line → Within self.new.line (begun_after line (byte ∷ [])) }
+    {
+        if byte == b'\n' {
+            return self.end_line(service);
         }
+        self.line.get_or_insert_with(LineBuffer::new).push(byte);
+        (service, Ok(()))
     }
-    (service, Ok(()))
-}
 
-// Answers a line that is begun, at the end of the input.
-fn finish<S: Service, W: Write>(
-    service: S,
-    out: &mut W,
-    reading: &mut Reading,
-) -> (S, io::Result<()>)
-    ensures { (line : List ℕ) → Within reading.old line → Answered S.turns service (last_line line) result.0 }
-{
-    if reading.begun {
-        return end_line(service, out, reading);
+    // Takes a piece of the input.
+    fn take_piece<S: Service>(&mut self, service: S, piece: &[u8]) -> (S, io::Result<()>)
+        ensures answered { (line : List ℕ) → Within self.old.line line → OnOk result.1 (Answered S.turns service (ended line piece.now) result.0) }
+        ensures within { (line : List ℕ) → Within self.old.line line → OnOk result.1 (Within self.new.line (begun_after line piece.now)) }
+    {
+        let mut service = service;
+        for byte in piece {
+            let (next, done) = self.take_byte(service, *byte);
+            service = next;
+            if done.is_err() {
+                return (service, done);
+            }
+        }
+        (service, Ok(()))
     }
-    (service, Ok(()))
+
+    // Answers a line that is begun, at the end of the input.
+    fn finish<S: Service>(&mut self, service: S) -> (S, io::Result<()>)
+        ensures { (line : List ℕ) → Within self.old.line line → Answered S.turns service (last_line line) result.0 }
+    {
+        if self.line.is_some() {
+            return self.end_line(service);
+        }
+        (service, Ok(()))
+    }
 }
 
 // Answers every line of the input, the last one also if no newline ends it.
@@ -104,24 +86,20 @@ pub fn serve<S: Service, R: Read, W: Write>(
     ensures { OnOk result.1 ((lines : List (List ℕ)) × Answered S.turns service lines result.0) }
 {
     let mut service = service;
-    let mut reading = Reading {
-        buffer: LineBuffer::new(),
-        begun: false,
-    };
+    let mut taken = Input { out, line: None };
     let mut piece = [0u8; 4096];
+    // An input may have no end: the proof that the loop has one needs the count.
     for _ in 0..u64::MAX {
         let n = match input.read(&mut piece) {
+            Ok(0) => break,
             Ok(n) => n,
             Err(e) => return (service, Err(e)),
         };
-        if n == 0 {
-            break;
-        }
-        let (next, done) = take_piece(service, out, &mut reading, &piece[0..n]);
+        let (next, done) = taken.take_piece(service, &piece[0..n]);
         service = next;
         if done.is_err() {
             return (service, done);
         }
     }
-    finish(service, out, &mut reading)
+    taken.finish(service)
 }

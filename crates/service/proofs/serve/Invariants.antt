@@ -6,5 +6,5 @@ use Rattle.service.proofs.serve.Given as goal
 abbrev pub invariant-loop : goal.invariant-loop
 invariant-loop g l =
     (length l.piece ≡ 4096)
-    × ((line : List ℕ) × Within l.reading line)
+    × ((line : List ℕ) × Within l.taken.line line)
     × ((lines : List (List ℕ)) × Answered g.S.Service.turns l.initial.service lines l.service)

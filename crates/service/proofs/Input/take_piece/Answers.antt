@@ -2,7 +2,7 @@ use Rattle.std.proofs.Common.{ℕ, ◌+◌, List, [], ◌∷◌, get_or, drop, s
 use Rattle.std.proofs.lemmas.List.{at_drop_more, at_drop_all}
 use Rattle.service.specs.Lines.{Answered, Within, begun_after, ended}
 use Rattle.service.proofs.Lines.{answered_more, begun_more}
-use Rattle.service.proofs.take_piece.Goals as goal
+use Rattle.service.proofs.Input.take_piece.Goals as goal
 
 pub loop-byte-preserved : goal.loop-byte-preserved
 loop-byte-preserved g c line w =
@@ -28,5 +28,5 @@ returns g c =
     let s = c.loop-byte.service in
     record {
       answered = λ line w. let was = c.loop-byte.invariant line w in was.3 s (subst (λ (lines : List (List ℕ)). Answered turns s lines s) (sym (at_drop_all (ended was.0) xs i c.loop-byte-test.false)) refl);
-      within = λ line w. let was = c.loop-byte.invariant line w in subst (λ (begun : List ℕ). Within c.loop-byte.reading begun) (sym (at_drop_all (begun_after was.0) xs i c.loop-byte-test.false) ∙ was.2) was.1;
+      within = λ line w. let was = c.loop-byte.invariant line w in subst (λ (begun : List ℕ). Within c.loop-byte.self.line begun) (sym (at_drop_all (begun_after was.0) xs i c.loop-byte-test.false) ∙ was.2) was.1;
     }
