@@ -10,7 +10,6 @@ pub mod rounding;
 pub mod session;
 pub mod settle;
 mod sides;
-mod traded;
 
 #[cfg(test)]
 mod tests {

@@ -9,13 +9,13 @@ ghost use Rattle.settlement.specs.Sessions.{outcome_of};
 
 use crate::session::ClearedSession;
 use market::account::Account;
-use market::limits::MAX_POSITION;
+use market::limits::position_within;
 
 // Whether a position, the income or the residue may stand there.
 fn may_stand(cents: i128) -> bool
     ensures { Decides result (PositionWithinLimits cents) }
 {
-    -(MAX_POSITION as i128) <= cents && cents <= MAX_POSITION as i128
+    i64::try_from(cents).is_ok_and(position_within)
 }
 
 // The position of an account after the last entry.
@@ -42,12 +42,8 @@ pub(crate) fn post(session: ClearedSession<'_>, accounts: &mut [Account])
     requires { AllByRecursion (λ a. PositionWithinLimits a.position) (accounts_after (outcome_of session) accounts.old) }
     ensures { accounts.new ≡ accounts_after (outcome_of session.entry) accounts.old }
 {
-    for i in 0..accounts.len() {
-        let account = accounts[i];
-        accounts[i] = Account {
-            agent: account.agent,
-            position: position_after(session, account) as i64,
-        };
+    for account in accounts.iter_mut() {
+        account.position = position_after(session, *account) as i64;
     }
 }
 

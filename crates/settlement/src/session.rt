@@ -78,10 +78,9 @@ impl ClearedZone<'_> {
 
 // Whether one volume exceeds another by the flow.
 fn exceeds(more: u128, less: u128, flow: i32) -> bool
-    requires { (more < 2 ^ 96) × (less < 2 ^ 96) }
     ensures { Decides result (pos more ≡ pos less +ℤ flow) }
 {
-    more as i128 == less as i128 + flow as i128
+    less.checked_add_signed(flow as i128) == Some(more)
 }
 
 // Writes the entry of the congestion income at the place, also when it is zero.
@@ -89,13 +88,7 @@ fn write_income(entries: &mut [Entry], place: usize, cents: i64)
     requires { place < length entries.old }
     ensures { entries.new ≡ set entries.old place (record { agent = 0; unit = 0; number = 0; cents = cents }) }
 {
-    let income = Entry {
-        agent: 0,
-        unit: 0,
-        number: 0,
-        cents,
-    };
-    entries[place] = income;
+    entries[place] = Entry::income(cents);
 }
 
 impl ClearedSession<'_> {

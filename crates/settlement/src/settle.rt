@@ -31,8 +31,11 @@ impl fmt::Display for Settled {
     ghost output = { λ s. Some (settled_text s) };
 
     fn fmt<W: fmt::Write>(&self, f: &mut fmt::Formatter<W>) -> fmt::Result {
-        let income = self.income;
-        let residue = self.residue;
+        let Settled {
+            income,
+            residue,
+            ..
+        } = *self;
         write!(f, "(settled (income {income}) (residue {residue}))")
     }
 }

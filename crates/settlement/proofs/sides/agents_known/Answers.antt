@@ -3,7 +3,7 @@ use Rattle.std.specs.List.{AllByRecursion}
 use Rattle.std.proofs.ByRecursion.{All-append}
 use Rattle.std.proofs.lemmas.List.{drop_all}
 use Rattle.std.proofs.lemmas.Bool.{false≢true}
-use Rattle.settlement.specs.Entries.{side_entries}
+use Rattle.settlement.specs.Entries.{side_entries, trade_of}
 use Rattle.settlement.specs.Postings.{has_account}
 use Rattle.settlement.specs.declared.entry.Entry.{Entry}
 use Rattle.settlement.proofs.Rows.{all_parts, entries_step}
@@ -12,7 +12,7 @@ use Rattle.settlement.proofs.sides.agents_known.Goals as goal
 pub returns-then-not-row_known : goal.returns-then-not-row_known
 returns-then-not-row_known g c = λ price.
     let known : Entry → Type 0 = λ e. has_account c.args.accounts.now e.agent ≡ true in
-    let t = g.B.Traded.trade in
+    let t = (trade_of g.B.BlockRow.held g.B.BlockRow.traded) in
     let xs = c.args.blocks.now in
     let i = c.loop-row.row-index in
     let r = c.row-item.result in
@@ -24,7 +24,7 @@ returns-then-not-row_known g c = λ price.
 pub loop-row-preserved : goal.loop-row-preserved
 loop-row-preserved g c = λ price.
     let known : Entry → Type 0 = λ e. has_account c.args.accounts.now e.agent ≡ true in
-    let t = g.B.Traded.trade in
+    let t = (trade_of g.B.BlockRow.held g.B.BlockRow.traded) in
     let xs = c.args.blocks.now in
     let i = c.loop-row.row-index in
     let r = c.row-item.result in
@@ -39,6 +39,6 @@ loop-row-preserved g c = λ price.
 pub returns : goal.returns
 returns g c = λ price.
     let known : Entry → Type 0 = λ e. has_account c.args.accounts.now e.agent ≡ true in
-    let t = g.B.Traded.trade in
+    let t = (trade_of g.B.BlockRow.held g.B.BlockRow.traded) in
     let none = ap (side_entries t price) (drop_all c.loop-row.row-index c.args.blocks.now c.loop-row-test.false) in
     (λ _. (c.loop-row.invariant price).0 (subst (AllByRecursion known) (sym none) tt), λ _. refl)

@@ -1,7 +1,7 @@
 use Rattle.std.proofs.Common.{ap, arith, w32, to_z, of_z}
 use Rattle.std.proofs.lemmas.List.{at_drop_all}
 use Rattle.std.proofs.lemmas.Int.{ints, to_z-of_z}
-use Rattle.settlement.specs.Entries.{side_entries}
+use Rattle.settlement.specs.Entries.{side_entries, trade_of}
 use Rattle.settlement.specs.Postings.{total}
 use Rattle.settlement.proofs.Rows.{total_step}
 use Rattle.settlement.proofs.sides.total_cents.Goals as goal
@@ -15,12 +15,12 @@ overflow_add-sum g c = omega (arith, ints, c.loop-row.invariant.1, c.row_cents.e
 pub loop-row-preserved : goal.loop-row-preserved
 loop-row-preserved g c =
     let p = to_z w32 (of_z w32 c.args.price) in
-    let step = total_step g.B.Traded.trade p (λ e. e.cents) c.args.blocks.now c.loop-row.row-index c.row-item.result c.loop-row-test.true c.row-item.is in
+    let step = total_step (trade_of g.B.BlockRow.held g.B.BlockRow.traded) p (λ e. e.cents) c.args.blocks.now c.loop-row.row-index c.row-item.result c.loop-row-test.true c.row-item.is in
     (omega (arith, ints, step, c.loop-row.invariant.0, c.row_cents.ensures.value), omega (arith, ints, c.loop-row.invariant.1, c.row_cents.ensures.small))
 
 pub returns : goal.returns
 returns g c =
-    let t = g.B.Traded.trade in
+    let t = (trade_of g.B.BlockRow.held g.B.BlockRow.traded) in
     let p = to_z w32 (of_z w32 c.args.price) in
     let all = at_drop_all (λ xs. total (λ e. e.cents) (side_entries t p xs)) c.args.blocks.now c.loop-row.row-index c.loop-row-test.false in
     let same = ap (λ z. total (λ e. e.cents) (side_entries t z c.args.blocks.now)) (to_z-of_z w32 c.args.price c.ranges.price) in

@@ -1,6 +1,6 @@
 use Rattle.std.proofs.Common.{◌≡◌, ◌<◌, [], ◌∷◌, length, sym, ap, ◌∙◌, arith, w32, w64, to_z, of_z}
 use Rattle.std.proofs.lemmas.Int.{ints, to_z-of_z}
-use Rattle.settlement.specs.Entries.{due, entry}
+use Rattle.settlement.specs.Entries.{due, entry, trade_of}
 use Rattle.settlement.specs.Writing.{written}
 use Rattle.settlement.specs.declared.entry.Entry.{Entry}
 use Rattle.settlement.proofs.Rows.{entries_none, entries_one}
@@ -9,14 +9,14 @@ use Rattle.settlement.proofs.sides.write_row.Goals as goal
 
 pub returns-then-block-eq0 : goal.returns-then-block-eq0
 returns-then-block-eq0 g c =
-    let t = g.B.Traded.trade in
+    let t = (trade_of g.B.BlockRow.held g.B.BlockRow.traded) in
     let xs = c.args.entries.now in
     let none = entries_none t c.args.price c.args.row.now (ap (λ b. b.matched) (sym c.block-block.ensures) ∙ c.if-block-eq0.true) in
     record { entries = sym (ap (λ es. written c.args.place es xs) none ∙ written_none c.args.place xs); next = omega (arith, ap length none) }
 
 pub returns : goal.returns
 returns g c =
-    let t = g.B.Traded.trade in
+    let t = (trade_of g.B.BlockRow.held g.B.BlockRow.traded) in
     let row = c.args.row.now in
     let price = c.args.price in
     let place = c.args.place in

@@ -1,7 +1,7 @@
 use Rattle.std.proofs.Common.{◌+◌, ◌≤◌, [], ◌∷◌, length, drop, ℤ, sym, ap, ◌∙◌, arith, length-append, w32, to_z, of_z}
 use Rattle.std.proofs.lemmas.List.{at_drop_all}
 use Rattle.std.proofs.lemmas.Int.{to_z-of_z}
-use Rattle.settlement.specs.Entries.{side_entries}
+use Rattle.settlement.specs.Entries.{side_entries, trade_of}
 use Rattle.settlement.specs.Writing.{written}
 use Rattle.settlement.proofs.Rows.{entries_step}
 use Rattle.settlement.proofs.Writes.{written_none, written_next}
@@ -9,7 +9,7 @@ use Rattle.settlement.proofs.sides.write_side.Goals as goal
 
 pub write_row-next-requires : goal.write_row-next-requires
 write_row-next-requires g c =
-    let t = g.B.Traded.trade in
+    let t = (trade_of g.B.BlockRow.held g.B.BlockRow.traded) in
     let p = to_z w32 (of_z w32 c.args.price) in
     let xs = c.args.blocks.now in
     let i = c.loop-row.row-index in
@@ -20,7 +20,7 @@ write_row-next-requires g c =
 
 pub loop-row-preserved : goal.loop-row-preserved
 loop-row-preserved g c =
-    let t = g.B.Traded.trade in
+    let t = (trade_of g.B.BlockRow.held g.B.BlockRow.traded) in
     let p = to_z w32 (of_z w32 c.args.price) in
     let xs = c.args.blocks.now in
     let i = c.loop-row.row-index in
@@ -38,7 +38,7 @@ loop-row-preserved g c =
 
 pub returns : goal.returns
 returns g c =
-    let t = g.B.Traded.trade in
+    let t = (trade_of g.B.BlockRow.held g.B.BlockRow.traded) in
     let p = to_z w32 (of_z w32 c.args.price) in
     let xs = c.args.blocks.now in
     let none = at_drop_all (side_entries t p) xs c.loop-row.row-index c.loop-row-test.false in
