@@ -65,14 +65,14 @@ impl ClearedZone<'_> {
         sellers && buyers
     }
 
-    // Writes the zone's entries from the place on; answers the next free place.
-    fn write(self, entries: &mut [Entry], place: usize) -> usize
-        requires { place + length (zone_entries (zone_of self)) ≤ length entries.old }
-        ensures entries { entries.new ≡ written place (zone_entries (zone_of self.entry)) entries.old }
-        ensures next { result ≡ place + length (zone_entries (zone_of self.entry)) }
+    // Writes the zone's entries over the first places.
+    fn write(self, entries: &mut [Entry])
+        requires { length (zone_entries (zone_of self)) ≤ length entries.old }
+        ensures { entries.new ≡ written 0 (zone_entries (zone_of self.entry)) entries.old }
     {
-        let next = write_side(self.sales, self.price, entries, place);
-        write_side(self.purchases, self.price, entries, next)
+        let sold = matched_blocks(self.sales);
+        write_side(self.sales, self.price, entries);
+        write_side(self.purchases, self.price, &mut entries[sold..]);
     }
 }
 
@@ -81,14 +81,6 @@ fn exceeds(more: u128, less: u128, flow: i32) -> bool
     ensures { Decides result (pos more ≡ pos less +ℤ flow) }
 {
     less.checked_add_signed(flow as i128) == Some(more)
-}
-
-// Writes the entry of the congestion income at the place, also when it is zero.
-fn write_income(entries: &mut [Entry], place: usize, cents: i64)
-    requires { place < length entries.old }
-    ensures { entries.new ≡ set entries.old place (record { agent = 0; unit = 0; number = 0; cents = cents }) }
-{
-    entries[place] = Entry::income(cents);
 }
 
 impl ClearedSession<'_> {
@@ -166,8 +158,10 @@ impl ClearedSession<'_> {
         requires { length (entries_of (outcome_of self)) ≤ length entries.old }
         ensures { entries.new ≡ written 0 (entries_of (outcome_of self.entry)) entries.old }
     {
-        let next = self.one.write(entries, 0);
-        let last = self.two.write(entries, next);
-        write_income(entries, last, self.income());
+        let first = self.one.matched_blocks() as usize;
+        let second = self.two.matched_blocks() as usize;
+        self.one.write(entries);
+        self.two.write(&mut entries[first..]);
+        entries[first + second] = Entry::income(self.income());
     }
 }
