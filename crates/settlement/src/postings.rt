@@ -29,12 +29,9 @@ fn position_after(session: ClearedSession<'_>, account: Account) -> i128
 fn positions_may_stand(session: ClearedSession<'_>, accounts: &[Account]) -> bool
     ensures { Decides result (AllByRecursion (λ a. PositionWithinLimits a.position) (accounts_after (outcome_of session.entry) accounts.now)) }
 {
-    for account in accounts {
-        if !may_stand(position_after(session, *account)) {
-            return false;
-        }
-    }
-    true
+    accounts
+        .iter()
+        .all(|account| may_stand(position_after(session, *account)))
 }
 
 // Posts the entries to the accounts.
@@ -67,7 +64,5 @@ pub(crate) fn limits_kept(
     requires { Balanced (outcome_of session) }
     ensures { Decides result (WithinLimits (outcome_of session.entry) accounts.now income residue) }
 {
-    let positions = positions_may_stand(session, accounts);
-    let totals = totals_may_stand(session, income, residue);
-    positions && totals
+    positions_may_stand(session, accounts) && totals_may_stand(session, income, residue)
 }

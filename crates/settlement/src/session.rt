@@ -60,9 +60,7 @@ impl ClearedZone<'_> {
     fn agents_known(self, accounts: &[Account]) -> bool
         ensures { Decides result (AllByRecursion (λ e. has_account accounts.now e.agent ≡ true) (zone_entries (zone_of self.entry))) }
     {
-        let sellers = agents_known(self.sales, accounts);
-        let buyers = agents_known(self.purchases, accounts);
-        sellers && buyers
+        agents_known(self.sales, accounts) && agents_known(self.purchases, accounts)
     }
 
     // Writes the zone's entries over the first places.
@@ -105,9 +103,7 @@ impl ClearedSession<'_> {
     pub(crate) fn agents_known(self, accounts: &[Account]) -> bool
         ensures { Decides result (KnownAgents (outcome_of self.entry) accounts.now) }
     {
-        let one = self.one.agents_known(accounts);
-        let two = self.two.agents_known(accounts);
-        one && two
+        self.one.agents_known(accounts) && self.two.agents_known(accounts)
     }
 
     // How many entries the session has: one for each matched block, and the congestion income.
@@ -122,8 +118,7 @@ impl ClearedSession<'_> {
         ensures value { result ≡ income_of (outcome_of self.entry) }
         ensures small { unsigned_abs result ≤ 2 ^ 60 }
     {
-        let session = &self;
-        congestion_income(session.flow, session.one.price, session.two.price)
+        congestion_income(self.flow, self.one.price, self.two.price)
     }
 
     // The cents of the blocks' entries that go to the agent.
@@ -139,8 +134,7 @@ impl ClearedSession<'_> {
         ensures value { result ≡ total (λ e. e.cents) (entries_of (outcome_of self.entry)) }
         ensures small { unsigned_abs result ≤ 2 ^ 126 + 2 ^ 60 }
     {
-        let blocks = self.one.total_cents() + self.two.total_cents();
-        blocks + self.income() as i128
+        self.one.total_cents() + self.two.total_cents() + self.income() as i128
     }
 
     // The residue of the session: what all its entries lack of zero.
