@@ -9,7 +9,7 @@ use Rattle.market.specs.declared.account.Account.{Account}
 use Rattle.settlement.specs.Entries.{block_entries}
 use Rattle.settlement.specs.Postings.{account_after, posted}
 use Rattle.settlement.specs.Sessions.{outcome_of}
-use Rattle.settlement.proofs.Posts.{all_mapped, all_over, next_unmapped}
+use Rattle.settlement.proofs.Posts.{all_mapped, next_unmapped}
 use Rattle.settlement.proofs.postings.post.Goals as goal
 
 pub overflow_cast-account : goal.overflow_cast-account
@@ -40,6 +40,3 @@ loop-account-preserved c =
     let is : to_z w64 (of_z w64 (to_z w128 (of_z w128 c.position_after.result))) ≡ a.position +ℤ posted a.agent es = omega (arith, ints, c.position_after.ensures.value, there.0, there.1) in
     let room : i < length ys = omega (arith, c.loop-account.auto.accounts, c.loop-account-test.true) in
     ap (λ z. set ys i (record { agent = a.agent; position = z })) is ∙ map_over_more (account_after es) xs ys i a c.loop-account-test.true c.loop-account.invariant (get_or_default ys i blank a room)
-
-pub returns : goal.returns
-returns c = all_over (account_after (block_entries (outcome_of c.args.session))) c.args.accounts.now c.loop-account.accounts c.loop-account.account-index c.loop-account.invariant c.loop-account-test.false

@@ -8,6 +8,16 @@ use Rattle.settlement.proofs.Parts.{block_parts, entry_parts, session_count}
 use Rattle.settlement.proofs.Writes.{length_written, written_behind, written_push}
 use Rattle.settlement.proofs.session.ClearedSession.write_entries.Goals as goal
 
+pub bounds-entries-first : goal.bounds-entries-first
+bounds-entries-first c =
+    let o = outcome_of c.args.self in
+    let one = zone_entries o.one in
+    let two = zone_entries o.two in
+    let xs = c.args.entries.now in
+    let fit : length one + length two ≤ length xs = omega (arith, session_count o, c.requires) in
+    let both = written_behind one two xs c.write.new.entries c.write-2.new.entries c.matched_blocks-first.result c.matched_blocks-first.ensures.value fit c.write.ensures c.write-2.ensures in
+    omega (arith, ap length both, length_written 0 (one ++ two) xs (omega (arith, fit, length-append one two)), session_count o, c.requires, c.matched_blocks-first.ensures.value, c.matched_blocks-second.ensures.value)
+
 pub returns : goal.returns
 returns c =
     let o = outcome_of c.args.self in
