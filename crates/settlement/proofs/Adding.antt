@@ -13,7 +13,7 @@ use Rattle.settlement.specs.Postings.{remainder, residue_of, tenth, total}
 use Rattle.settlement.specs.Balance.{AddsUp, Balanced, matched}
 use Rattle.settlement.proofs.Roundings.{rounds}
 use Rattle.settlement.proofs.Rows.{signed_none}
-use Rattle.settlement.proofs.Totals.{total_append}
+use Rattle.settlement.proofs.Sums.{total_append}
 
 spread : (p a b : ℤ) → p *ℤ (a +ℤ b) ≡ p *ℤ a +ℤ p *ℤ b
 spread p a b =

@@ -10,7 +10,7 @@ use Rattle.settlement.specs.Postings.{income_of, total}
 use Rattle.settlement.specs.declared.entry.Entry.{Entry}
 use Rattle.settlement.proofs.Deciding.{decides_first, decides_second}
 use Rattle.settlement.proofs.Rows.{all_parts}
-use Rattle.settlement.proofs.Totals.{total_append}
+use Rattle.settlement.proofs.Sums.{total_append}
 
 pub zone_parts : (z : ZoneOutcome) → zone_entries z ≡ side_entries selling z.price z.sales ++ side_entries buying z.price z.purchases
 zone_parts z = map-append entry (dues selling z.price z.sales) (dues buying z.price z.purchases)

@@ -12,7 +12,7 @@ use Rattle.settlement.specs.Entries.{Trade, due, dues, entry, is_matched, side_e
 use Rattle.settlement.specs.Postings.{total}
 use Rattle.settlement.specs.Rounding.{nearest_cent}
 use Rattle.settlement.specs.declared.entry.Entry.{Entry}
-use Rattle.settlement.proofs.Totals.{total_append}
+use Rattle.settlement.proofs.Sums.{total_append}
 
 pub all_parts : {X : Type 0} (P : X → Type 0) (xs ys : List X) → AllByRecursion P (xs ++ ys) → AllByRecursion P xs × AllByRecursion P ys
 all_parts P [] ys h = (tt, h)

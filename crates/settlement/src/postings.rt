@@ -8,6 +8,7 @@ ghost use Rattle.settlement.specs.Postings.{WithinLimits, accounts_after, income
 ghost use Rattle.settlement.specs.Sessions.{outcome_of};
 
 use crate::session::ClearedSession;
+use crate::totals::Totals;
 use market::account::Account;
 use market::limits::position_within;
 
@@ -45,24 +46,18 @@ pub(crate) fn post(session: ClearedSession<'_>, accounts: &mut [Account])
 }
 
 // Whether the income and the residue may stand where they do after the last entry.
-fn totals_may_stand(session: ClearedSession<'_>, income: i64, residue: i64) -> bool
+fn totals_may_stand(session: ClearedSession<'_>, totals: Totals) -> bool
     requires { Balanced (outcome_of session) }
-    ensures { Decides result (PositionWithinLimits (income +ℤ income_of (outcome_of session.entry)) × PositionWithinLimits (residue +ℤ residue_of (outcome_of session.entry))) }
+    ensures { Decides result (PositionWithinLimits (totals.income +ℤ income_of (outcome_of session.entry)) × PositionWithinLimits (totals.residue +ℤ residue_of (outcome_of session.entry))) }
 {
-    let incomes = may_stand(income as i128 + session.income() as i128);
-    let residues = may_stand(residue as i128 + session.residue());
-    incomes && residues
+    may_stand(totals.income as i128 + session.income() as i128)
+        && may_stand(totals.residue as i128 + session.residue())
 }
 
 // Whether no position, nor the income, nor the residue would stand past its limits after the last entry.
-pub(crate) fn limits_kept(
-    session: ClearedSession<'_>,
-    accounts: &[Account],
-    income: i64,
-    residue: i64,
-) -> bool
+pub(crate) fn limits_kept(session: ClearedSession<'_>, accounts: &[Account], totals: Totals) -> bool
     requires { Balanced (outcome_of session) }
-    ensures { Decides result (WithinLimits (outcome_of session.entry) accounts.now income residue) }
+    ensures { Decides result (WithinLimits (outcome_of session.entry) accounts.now totals.income totals.residue) }
 {
-    positions_may_stand(session, accounts) && totals_may_stand(session, income, residue)
+    positions_may_stand(session, accounts) && totals_may_stand(session, totals)
 }
