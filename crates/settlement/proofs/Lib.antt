@@ -1,5 +1,5 @@
 pub mod Roundings
-pub mod Totals
+pub mod Sums
 pub mod Adding
 pub mod Products
 pub mod Rows

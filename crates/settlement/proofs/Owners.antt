@@ -1,15 +1,12 @@
--- Whether an agent has an account, account by account.
-use Rattle.std.proofs.Common.{◌≡◌, ℕ, ◌+◌, ◌<◌, true, ◌||◌, List, length, get_or, drop, ap, ◌∙◌}
-use Rattle.std.proofs.lemmas.List.{at_drop_more}
-use Rattle.std.proofs.lemmas.Bool.{eq-eqb, ne_eqb}
+-- Whether agents have an account.
+use Rattle.std.proofs.Common.{◌≡◌, true, List, [], ◌∷◌, map, ℤ, Decides, refl}
+use Rattle.std.specs.List.{AllByRecursion, list_all}
+use Rattle.std.proofs.lemmas.Bool.Decides.{Decides-and}
 use Rattle.market.specs.declared.account.Account.{Account}
+use Rattle.settlement.specs.Entries.{Trade, due, entry}
 use Rattle.settlement.specs.Postings.{has_account}
 
-module _ (xs : List Account) (i agent : ℕ) (d : Account) (within : i < length xs) where
-  pub has_here : (get_or xs i d).agent ≡ agent → has_account (drop i xs) agent ≡ true
-  has_here e =
-      at_drop_more (λ ys. has_account ys agent) xs i d within ∙ ap (λ b. b || has_account (drop (i + 1) xs) agent) (eq-eqb (get_or xs i d).agent agent e)
-
-  pub has_later : ((get_or xs i d).agent ≡ agent → ⊥) → has_account (drop i xs) agent ≡ has_account (drop (i + 1) xs) agent
-  has_later n =
-      at_drop_more (λ ys. has_account ys agent) xs i d within ∙ ap (λ b. b || has_account (drop (i + 1) xs) agent) (ne_eqb (get_or xs i d).agent agent n)
+pub known_rows : {X : Type 0} (accounts : List Account) (t : Trade X) (p : ℤ) (rows : List X) → Decides (list_all (λ x. has_account accounts (t.block x).bid.agent) rows) (AllByRecursion (λ e. has_account accounts e.agent ≡ true) (map entry (map (due t p) rows)))
+known_rows accounts t p [] = (λ _. tt, λ _. refl)
+known_rows accounts t p (x ∷ rows) =
+    Decides-and (has_account accounts (t.block x).bid.agent) _ (λ h. h, λ h. h) (known_rows accounts t p rows)

@@ -1,5 +1,5 @@
 -- The entries of a zone and of a session, part by part.
-use Rattle.std.proofs.Common.{◌≡◌, ◌+◌, Bool, true, false, List, [], ◌∷◌, ◌++◌, length, ℤ, ◌+ℤ◌, Decides, filter, sym, refl, ap, ◌∙◌, subst, arith, length-append}
+use Rattle.std.proofs.Common.{◌≡◌, ◌+◌, Bool, true, false, List, [], ◌∷◌, ◌++◌, length, ℤ, ◌+ℤ◌, Decides, filter, sym, ap, ◌∙◌, subst, arith, length-append}
 use lib.ListN.{length-map}
 use Rattle.std.specs.List.{AllByRecursion}
 use Rattle.std.proofs.ByRecursion.{All-append}
@@ -10,20 +10,15 @@ use Rattle.settlement.specs.Postings.{income_of, total}
 use Rattle.settlement.specs.declared.entry.Entry.{Entry}
 use Rattle.settlement.proofs.Deciding.{decides_first, decides_second}
 use Rattle.settlement.proofs.Rows.{all_parts}
-use Rattle.settlement.proofs.Totals.{total_append}
+use Rattle.settlement.proofs.Sums.{total_append}
 
 pub zone_parts : (z : ZoneOutcome) → zone_entries z ≡ side_entries selling z.price z.sales ++ side_entries buying z.price z.purchases
 zone_parts z = map-append entry (dues selling z.price z.sales) (dues buying z.price z.purchases)
 
--- the same at a price that equals the zone's
-pub zone_parts_at : (z : ZoneOutcome) (p : ℤ) → p ≡ z.price → zone_entries z ≡ side_entries selling p z.sales ++ side_entries buying p z.purchases
-zone_parts_at z p e = zone_parts z ∙ ap (λ (q : ℤ). side_entries selling q z.sales ++ side_entries buying q z.purchases) (sym e)
-
+-- at a price that equals the zone's
 pub zone_total : (f : Entry → ℤ) (z : ZoneOutcome) (p : ℤ) → p ≡ z.price → total f (zone_entries z) ≡ total f (side_entries selling p z.sales) +ℤ total f (side_entries buying p z.purchases)
-zone_total f z p e = ap (total f) (zone_parts_at z p e) ∙ total_append f (side_entries selling p z.sales) (side_entries buying p z.purchases)
-
-pub zone_length : (z : ZoneOutcome) (p : ℤ) → p ≡ z.price → length (zone_entries z) ≡ length (side_entries selling p z.sales) + length (side_entries buying p z.purchases)
-zone_length z p e = ap length (zone_parts_at z p e) ∙ length-append (side_entries selling p z.sales) (side_entries buying p z.purchases)
+zone_total f z p e =
+    ap (total f) (zone_parts z ∙ ap (λ (q : ℤ). side_entries selling q z.sales ++ side_entries buying q z.purchases) (sym e)) ∙ total_append f (side_entries selling p z.sales) (side_entries buying p z.purchases)
 
 pub block_parts : (o : Outcome) → block_entries o ≡ zone_entries o.one ++ zone_entries o.two
 block_parts o = map-append entry (zone_dues o.one) (zone_dues o.two)
@@ -42,7 +37,7 @@ pub zone_count : (z : ZoneOutcome) → length (zone_entries z) ≡ length (filte
 zone_count z =
     let sold = side_count selling z.price z.sales in
     let bought = side_count buying z.price z.purchases in
-    omega (arith, sold, bought, zone_length z z.price refl)
+    omega (arith, sold, bought, ap length (zone_parts z), length-append (side_entries selling z.price z.sales) (side_entries buying z.price z.purchases))
 
 pub session_count : (o : Outcome) → length (entries_of o) ≡ length (zone_entries o.one) + length (zone_entries o.two) + 1
 session_count o =

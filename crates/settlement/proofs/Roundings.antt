@@ -1,7 +1,7 @@
 -- Rounding keeps its law.
-use Rattle.std.proofs.Common.{◌≡◌, zero, suc, ◌≤◌, ℤ, pos, negsuc, ◌+ℤ◌, ◌-ℤ◌, neg_ℤ, ◌≤ℤ◌, ◌<ℤ◌, refl, arith}
+use Rattle.std.proofs.Common.{◌≡◌, zero, suc, ◌≤◌, ℤ, pos, negsuc, ◌+ℤ◌, ◌-ℤ◌, neg_ℤ, ◌≤ℤ◌, refl, arith}
 use lib.Signed.{quot_z, rem_z}
-use Rattle.std.proofs.lemmas.Int.{ints}
+use Rattle.std.proofs.lemmas.Int.{ints, to_z-of_z}
 use Rattle.settlement.specs.Rounding.{Rounds, away, nearest_cent}
 
 half : (amount : ℤ) → away amount (nearest_cent amount) ≤ 5
@@ -33,7 +33,9 @@ unfolding nearest_cent
 quotient_down (pos n) h = omega (arith, ints)
 quotient_down (negsuc n) h = omega (arith, ints)
 
-pub quotient_stays : (z : ℤ) → rem_z z (pos 10) <ℤ pos 5 → neg_ℤ (pos 5) <ℤ rem_z z (pos 10) → quot_z z (pos 10) ≡ nearest_cent z
+pub quotient_stays : (z : ℤ) → rem_z z (pos 10) ≤ℤ pos 4 → neg_ℤ (pos 4) ≤ℤ rem_z z (pos 10) → quot_z z (pos 10) ≡ nearest_cent z
 unfolding nearest_cent
 quotient_stays (pos n) h k = omega (arith, ints)
 quotient_stays (negsuc n) h k = omega (arith, ints)
+
+pub ruleset quotients = (ints, to_z-of_z, quotient_up, quotient_down, rounds)

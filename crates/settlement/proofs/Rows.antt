@@ -1,33 +1,65 @@
 -- The entries of one side, row by row.
-use Rattle.std.proofs.Common.{◌≡◌, ℕ, ◌+◌, ◌<◌, Bool, true, false, cond, ltb, List, [], ◌∷◌, ◌++◌, map, length, get_or, drop, ℤ, ◌+ℤ◌, filter, sym, refl, ap, ◌∙◌, arith}
+use Rattle.std.proofs.Common.{◌≡◌, ℕ, ◌+◌, ◌<◌, ◌≤◌, Bool, true, false, cond, ltb, List, [], ◌∷◌, ◌++◌, map, length, get_or, take, drop, ℤ, pos, ◌+ℤ◌, ◌*ℤ◌, filter, sym, refl, ap, ◌∙◌, arith, length-append}
 use Rattle.std.specs.List.{AllByRecursion}
-use Rattle.std.proofs.lemmas.List.{at_drop_more}
-use Rattle.std.proofs.lemmas.Bool.{lt-ltb}
-use Rattle.settlement.specs.Entries.{Trade, due, entry, is_matched, side_entries}
+use Rattle.std.proofs.lemmas.List.{map-append, take_more, take-append-drop}
+use Rattle.std.proofs.lemmas.List.Elements.{filter-append}
+use Rattle.std.proofs.lemmas.Bool.{ltb-false}
+use Rattle.std.proofs.lemmas.Int.{ints}
+use Rattle.market.specs.declared.block.Block.{Block}
+use Rattle.market.specs.declared.zone.Side.{Side}
+use Rattle.market.specs.declared.zone.Side.TheVariants as side
+use Rattle.settlement.specs.Entries.{Trade, due, dues, entry, is_matched, side_entries, signed}
 use Rattle.settlement.specs.Postings.{total}
+use Rattle.settlement.specs.Rounding.{nearest_cent}
 use Rattle.settlement.specs.declared.entry.Entry.{Entry}
-use Rattle.settlement.proofs.Totals.{total_append}
+use Rattle.settlement.proofs.Sums.{total_append}
 
 pub all_parts : {X : Type 0} (P : X → Type 0) (xs ys : List X) → AllByRecursion P (xs ++ ys) → AllByRecursion P xs × AllByRecursion P ys
 all_parts P [] ys h = (tt, h)
 all_parts P (x ∷ xs) ys (here, h) = let parts = all_parts P xs ys h in ((here, parts.0), parts.1)
 
+pub signed_none : (s : Side) (p : ℤ) (n : ℕ) → n ≤ 0 → signed s (p *ℤ pos n) ≡ pos 0
+signed_none side.Sale p n h = let e : n ≡ 0 = omega arith in rw e (omega (arith, ints))
+signed_none side.Purchase p n h = let e : n ≡ 0 = omega arith in rw e (omega (arith, ints))
+
 module _ {X : Type 0} (t : Trade X) (p : ℤ) where
-  pub entries_cons : (x : X) (xs : List X) → side_entries t p (x ∷ xs) ≡ side_entries t p (x ∷ []) ++ side_entries t p xs
-  entries_cons x xs =
-      let P : Bool → Type 0 = λ b. map entry (map (due t p) (cond b (x ∷ filter (is_matched t) xs) (filter (is_matched t) xs))) ≡ map entry (map (due t p) (cond b (x ∷ []) [])) ++ side_entries t p xs in
-      elim (is_matched t x) as P [ true ↦ refl | false ↦ refl ]
+  entries_append : (xs ys : List X) → side_entries t p (xs ++ ys) ≡ side_entries t p xs ++ side_entries t p ys
+  entries_append xs ys =
+      ap (λ zs. map entry (map (due t p) zs)) (filter-append (is_matched t) xs ys) ∙ ap (map entry) (map-append (due t p) (filter (is_matched t) xs) (filter (is_matched t) ys)) ∙ map-append entry (dues t p xs) (dues t p ys)
 
-  pub entries_none : (x : X) → (t.block x).matched ≡ 0 → side_entries t p (x ∷ []) ≡ []
-  entries_none x e = ap (λ n. map entry (map (due t p) (cond (ltb 0 n) (x ∷ []) []))) e
+  pub entries_none : (x : X) → is_matched t x ≡ false → side_entries t p (x ∷ []) ≡ []
+  entries_none x e = ap (λ b. map entry (map (due t p) (cond b (x ∷ []) []))) e
 
-  pub entries_one : (x : X) → ((t.block x).matched ≡ 0 → ⊥) → side_entries t p (x ∷ []) ≡ entry (due t p x) ∷ []
-  entries_one x n = ap (λ b. map entry (map (due t p) (cond b (x ∷ []) []))) (lt-ltb 0 (t.block x).matched (omega arith))
+  pub entries_one : (x : X) → is_matched t x ≡ true → side_entries t p (x ∷ []) ≡ entry (due t p x) ∷ []
+  entries_one x e = ap (λ b. map entry (map (due t p) (cond b (x ∷ []) []))) e
 
-  -- the entries from the place i on, where r stands
-  pub entries_step : (xs : List X) (i : ℕ) (r : X) → i < length xs → r ≡ get_or xs i r → side_entries t p (drop i xs) ≡ side_entries t p (r ∷ []) ++ side_entries t p (drop (i + 1) xs)
-  entries_step xs i r h e =
-      at_drop_more (side_entries t p) xs i r h ∙ ap (λ y. side_entries t p (y ∷ drop (i + 1) xs)) (sym e) ∙ entries_cons r (drop (i + 1) xs)
+  -- the entries of the first rows, and of one more, r
+  module _ (xs : List X) (i : ℕ) (r : X) (within : i < length xs) (here : r ≡ get_or xs i r) where
+    pub entries_more : side_entries t p (take (i + 1) xs) ≡ side_entries t p (take i xs) ++ side_entries t p (r ∷ [])
+    entries_more =
+        ap (side_entries t p) (take_more xs i r within ∙ ap (λ y. take i xs ++ y ∷ []) (sym here)) ∙ entries_append (take i xs) (r ∷ [])
 
-  pub total_step : (f : Entry → ℤ) (xs : List X) (i : ℕ) (r : X) → i < length xs → r ≡ get_or xs i r → total f (side_entries t p (drop i xs)) ≡ total f (side_entries t p (r ∷ [])) +ℤ total f (side_entries t p (drop (i + 1) xs))
-  total_step f xs i r h e = ap (total f) (entries_step xs i r h e) ∙ total_append f (side_entries t p (r ∷ [])) (side_entries t p (drop (i + 1) xs))
+    pub total_more : (f : Entry → ℤ) → total f (side_entries t p (take (i + 1) xs)) ≡ total f (side_entries t p (take i xs)) +ℤ total f (side_entries t p (r ∷ []))
+    total_more f = ap (total f) entries_more ∙ total_append f (side_entries t p (take i xs)) (side_entries t p (r ∷ []))
+
+    pub places_left : is_matched t r ≡ true → length (side_entries t p (take i xs)) < length (side_entries t p xs)
+    places_left m =
+        let n = i + 1 in
+        let all = ap (side_entries t p) (sym (take-append-drop n xs)) ∙ entries_append (take n xs) (drop n xs) in
+        omega (arith, ap length all, length-append (side_entries t p (take n xs)) (side_entries t p (drop n xs)), ap length entries_more, length-append (side_entries t p (take i xs)) (side_entries t p (r ∷ [])), ap length (entries_one r m))
+
+  -- a row of which nothing is matched is due nothing
+  row_exact : (x : X) → nearest_cent (signed t.side (p *ℤ pos (t.block x).matched)) ≡ total (λ e. e.cents) (side_entries t p (x ∷ []))
+  unfolding nearest_cent
+  row_exact x =
+      let P : Bool → Type 0 = λ b. ltb 0 (t.block x).matched ≡ b → nearest_cent (signed t.side (p *ℤ pos (t.block x).matched)) ≡ total (λ e. e.cents) (map entry (map (due t p) (cond b (x ∷ []) []))) in
+      let go : P (ltb 0 (t.block x).matched) =
+      elim (ltb 0 (t.block x).matched) as P [
+        | true ↦ λ _. omega (arith, ints)
+        | false ↦ λ h. ap nearest_cent (signed_none t.side p (t.block x).matched (ltb-false 0 (t.block x).matched h))
+      ] in
+      go refl
+
+  pub row_total : (x : X) (s : Side) (b : Block) (q : ℤ) → s ≡ t.side → b ≡ t.block x → q ≡ p → nearest_cent (signed s (q *ℤ pos b.matched)) ≡ total (λ e. e.cents) (side_entries t p (x ∷ []))
+  row_total x s b q e f h =
+      ap (λ z. nearest_cent (signed z (q *ℤ pos b.matched))) e ∙ ap (λ y. nearest_cent (signed t.side (q *ℤ pos y.matched))) f ∙ ap (λ z. nearest_cent (signed t.side (z *ℤ pos (t.block x).matched))) h ∙ row_exact x

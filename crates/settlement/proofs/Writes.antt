@@ -1,6 +1,7 @@
 -- Entries written one after another.
-use Rattle.std.proofs.Common.{◌≡◌, ℕ, ◌+◌, ◌<◌, ◌≤◌, List, [], ◌∷◌, ◌++◌, length, take, drop, set, sym, ap, ◌∙◌, add-zero, add-one, arith, length-append, length-drop, length-take}
-use Rattle.std.proofs.lemmas.List.{append_assoc, take-append-drop, length-take-le, take_at, drop_at, drop-drop, set_split}
+use Rattle.std.proofs.Common.{◌≡◌, ℕ, ◌+◌, ◌-◌, ◌<◌, ◌≤◌, List, [], ◌∷◌, ◌++◌, length, take, drop, set, sym, ap, ◌∙◌, add-zero, add-one, append-nil, arith, length-append, length-drop, length-take}
+use borrow.Rule.Slice.PartMut.{mid_of, post_of, put_mid}
+use Rattle.std.proofs.lemmas.List.{append_assoc, take-append-drop, length-take-le, take_all, take_at, drop_all, drop_at, drop-drop, set_split}
 use Rattle.settlement.specs.Writing.{written}
 
 module _ {X : Type 0} where
@@ -28,14 +29,18 @@ module _ {X : Type 0} where
   pub written_next : (place n : ℕ) (es fs xs ys : List X) → place + length es ≤ length xs → ys ≡ written place es xs → n ≡ place + length es → written n fs ys ≡ written place (es ++ fs) xs
   written_next place n es fs xs ys h e k = ap (λ m. written m fs ys) k ∙ ap (λ l. written (place + length es) fs l) e ∙ written_then place es fs xs h
 
+  -- one element more over the next place
+  pub written_push : (es xs ys : List X) (place : ℕ) (y : X) → ys ≡ written 0 es xs → place ≡ length es → place < length ys → length ys ≡ length xs → set ys place y ≡ written 0 (es ++ y ∷ []) xs
+  written_push es xs ys place y e k room same =
+      written_one place y ys room ∙ written_next 0 place es (y ∷ []) xs ys (omega arith) e (omega arith)
+
   pub length_written : (place : ℕ) (es xs : List X) → place + length es ≤ length xs → length (written place es xs) ≡ length xs
   length_written place es xs h = simp (length-append, length-take, length-drop) (omega arith)
 
-  -- two lists and one element, one after another from the first place on
-  pub written_three : (ys bs : List X) (y : X) (xs first second : List X) (n m : ℕ) → length ys + length bs + 1 ≤ length xs → first ≡ written 0 ys xs → n ≡ 0 + length ys → second ≡ written n bs first → m ≡ n + length bs → set second m y ≡ written 0 ((ys ++ bs) ++ y ∷ []) xs
-  written_three ys bs y xs first second n m h e en f em =
-      let sum = length-append ys bs in
-      let two : second ≡ written 0 (ys ++ bs) xs = f ∙ written_next 0 n ys bs xs first (omega arith) e en in
-      let end : m ≡ 0 + length (ys ++ bs) = omega (arith, sum) in
-      let room : 0 + length (ys ++ bs) < length (written 0 (ys ++ bs) xs) = omega (arith, sum, length_written 0 (ys ++ bs) xs (omega (arith, sum))) in
-      ap (λ l. set l m y) two ∙ ap (λ k. set (written 0 (ys ++ bs) xs) k y) end ∙ written_one (0 + length (ys ++ bs)) y (written 0 (ys ++ bs) xs) room ∙ written_then 0 (ys ++ bs) (y ∷ []) xs (omega (arith, sum))
+  -- one list over the first places, and another one over those behind it
+  pub written_behind : (es fs xs ys zs : List X) (n : ℕ) → n ≡ length es → length es + length fs ≤ length xs → ys ≡ written 0 es xs → zs ≡ written 0 fs (mid_of n (length ys - n) ys) → put_mid n (length ys - n) ys zs ≡ written 0 (es ++ fs) xs
+  written_behind es fs xs ys zs n k h e f =
+      let rest : length (drop n ys) ≤ length ys - n = omega (arith, length-drop n ys) in
+      let behind : zs ++ post_of n (length ys - n) ys ≡ fs ++ drop (n + length fs) ys =
+      ap (λ l. zs ++ l) (drop_all (length ys - n) (drop n ys) rest) ∙ append-nil zs ∙ f ∙ ap (λ l. fs ++ drop (0 + length fs) l) (take_all (length ys - n) (drop n ys) rest) ∙ ap (λ l. fs ++ l) (drop-drop (0 + length fs) n ys ∙ ap (λ m. drop m ys) (omega arith)) in
+      ap (λ l. take n ys ++ l) behind ∙ written_next 0 n es fs xs ys (omega arith) e (omega arith)

@@ -26,11 +26,14 @@ pub record Trade (X : Type 0) : Type 0 where
   pub block : X → Block
   pub side : Side
 
+abbrev pub trade_of : {X : Type 0} → (X → Block) → Side → Trade X
+trade_of held traded = record { block = held; side = traded }
+
 abbrev pub selling : Trade Sale
-selling = record { block = λ s. s.block; side = side.Sale }
+selling = trade_of (λ s. s.block) side.Sale
 
 abbrev pub buying : Trade Purchase
-buying = record { block = λ p. p.block; side = side.Purchase }
+buying = trade_of (λ p. p.block) side.Purchase
 
 -- for the seller, against the purchaser
 abbrev pub signed : Side → ℤ → ℤ

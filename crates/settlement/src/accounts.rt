@@ -8,10 +8,5 @@ use market::account::Account;
 pub(crate) fn has_account(accounts: &[Account], agent: u32) -> bool
     ensures { result ≡ has_account accounts.now agent }
 {
-    for account in accounts {
-        if account.agent == agent {
-            return true;
-        }
-    }
-    false
+    accounts.iter().any(|account| account.agent == agent)
 }

@@ -10,7 +10,7 @@ pub mod rounding;
 pub mod session;
 pub mod settle;
 mod sides;
-mod traded;
+pub mod totals;
 
 #[cfg(test)]
 mod tests {
@@ -18,6 +18,7 @@ mod tests {
     use crate::rounding::nearest_cent;
     use crate::session::{ClearedSession, ClearedZone};
     use crate::settle::settle;
+    use crate::totals::Totals;
     use market::account::Account;
     use market::block::{Bid, Block};
     use market::purchase::Purchase;
@@ -88,8 +89,10 @@ mod tests {
             ClearedSession { one, two, flow: 0 },
             &mut accounts,
             &mut entries,
-            0,
-            0,
+            Totals {
+                income: 0,
+                residue: 0,
+            },
         ) else {
             return Err(Fail::new("refused"));
         };

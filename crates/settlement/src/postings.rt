@@ -8,14 +8,15 @@ ghost use Rattle.settlement.specs.Postings.{WithinLimits, accounts_after, income
 ghost use Rattle.settlement.specs.Sessions.{outcome_of};
 
 use crate::session::ClearedSession;
+use crate::totals::Totals;
 use market::account::Account;
-use market::limits::MAX_POSITION;
+use market::limits::position_within;
 
 // Whether a position, the income or the residue may stand there.
 fn may_stand(cents: i128) -> bool
     ensures { Decides result (PositionWithinLimits cents) }
 {
-    -(MAX_POSITION as i128) <= cents && cents <= MAX_POSITION as i128
+    i64::try_from(cents).is_ok_and(position_within)
 }
 
 // The position of an account after the last entry.
@@ -29,12 +30,9 @@ fn position_after(session: ClearedSession<'_>, account: Account) -> i128
 fn positions_may_stand(session: ClearedSession<'_>, accounts: &[Account]) -> bool
     ensures { Decides result (AllByRecursion (λ a. PositionWithinLimits a.position) (accounts_after (outcome_of session.entry) accounts.now)) }
 {
-    for account in accounts {
-        if !may_stand(position_after(session, *account)) {
-            return false;
-        }
-    }
-    true
+    accounts
+        .iter()
+        .all(|account| may_stand(position_after(session, *account)))
 }
 
 // Posts the entries to the accounts.
@@ -42,36 +40,24 @@ pub(crate) fn post(session: ClearedSession<'_>, accounts: &mut [Account])
     requires { AllByRecursion (λ a. PositionWithinLimits a.position) (accounts_after (outcome_of session) accounts.old) }
     ensures { accounts.new ≡ accounts_after (outcome_of session.entry) accounts.old }
 {
-    for i in 0..accounts.len() {
-        let account = accounts[i];
-        accounts[i] = Account {
-            agent: account.agent,
-            position: position_after(session, account) as i64,
-        };
+    for account in accounts.iter_mut() {
+        account.position = position_after(session, *account) as i64;
     }
 }
 
 // Whether the income and the residue may stand where they do after the last entry.
-fn totals_may_stand(session: ClearedSession<'_>, income: i64, residue: i64) -> bool
+fn totals_may_stand(session: ClearedSession<'_>, totals: Totals) -> bool
     requires { Balanced (outcome_of session) }
-    ensures { Decides result (PositionWithinLimits (income +ℤ income_of (outcome_of session.entry)) × PositionWithinLimits (residue +ℤ residue_of (outcome_of session.entry))) }
+    ensures { Decides result (PositionWithinLimits (totals.income +ℤ income_of (outcome_of session.entry)) × PositionWithinLimits (totals.residue +ℤ residue_of (outcome_of session.entry))) }
 {
-    let incomes = may_stand(income as i128 + session.income() as i128);
-    let residues = may_stand(residue as i128 + session.residue());
-    incomes && residues
+    may_stand(totals.income as i128 + session.income() as i128)
+        && may_stand(totals.residue as i128 + session.residue())
 }
 
 // Whether no position, nor the income, nor the residue would stand past its limits after the last entry.
-pub(crate) fn limits_kept(
-    session: ClearedSession<'_>,
-    accounts: &[Account],
-    income: i64,
-    residue: i64,
-) -> bool
+pub(crate) fn limits_kept(session: ClearedSession<'_>, accounts: &[Account], totals: Totals) -> bool
     requires { Balanced (outcome_of session) }
-    ensures { Decides result (WithinLimits (outcome_of session.entry) accounts.now income residue) }
+    ensures { Decides result (WithinLimits (outcome_of session.entry) accounts.now totals.income totals.residue) }
 {
-    let positions = positions_may_stand(session, accounts);
-    let totals = totals_may_stand(session, income, residue);
-    positions && totals
+    positions_may_stand(session, accounts) && totals_may_stand(session, totals)
 }

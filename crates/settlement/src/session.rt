@@ -60,42 +60,25 @@ impl ClearedZone<'_> {
     fn agents_known(self, accounts: &[Account]) -> bool
         ensures { Decides result (AllByRecursion (λ e. has_account accounts.now e.agent ≡ true) (zone_entries (zone_of self.entry))) }
     {
-        let sellers = agents_known(self.sales, accounts);
-        let buyers = agents_known(self.purchases, accounts);
-        sellers && buyers
+        agents_known(self.sales, accounts) && agents_known(self.purchases, accounts)
     }
 
-    // Writes the zone's entries from the place on; answers the next free place.
-    fn write(self, entries: &mut [Entry], place: usize) -> usize
-        requires { place + length (zone_entries (zone_of self)) ≤ length entries.old }
-        ensures entries { entries.new ≡ written place (zone_entries (zone_of self.entry)) entries.old }
-        ensures next { result ≡ place + length (zone_entries (zone_of self.entry)) }
+    // Writes the zone's entries over the first places.
+    fn write(self, entries: &mut [Entry])
+        requires { length (zone_entries (zone_of self)) ≤ length entries.old }
+        ensures { entries.new ≡ written 0 (zone_entries (zone_of self.entry)) entries.old }
     {
-        let next = write_side(self.sales, self.price, entries, place);
-        write_side(self.purchases, self.price, entries, next)
+        let sold = matched_blocks(self.sales);
+        write_side(self.sales, self.price, entries);
+        write_side(self.purchases, self.price, &mut entries[sold..]);
     }
 }
 
 // Whether one volume exceeds another by the flow.
 fn exceeds(more: u128, less: u128, flow: i32) -> bool
-    requires { (more < 2 ^ 96) × (less < 2 ^ 96) }
     ensures { Decides result (pos more ≡ pos less +ℤ flow) }
 {
-    more as i128 == less as i128 + flow as i128
-}
-
-// Writes the entry of the congestion income at the place, also when it is zero.
-fn write_income(entries: &mut [Entry], place: usize, cents: i64)
-    requires { place < length entries.old }
-    ensures { entries.new ≡ set entries.old place (record { agent = 0; unit = 0; number = 0; cents = cents }) }
-{
-    let income = Entry {
-        agent: 0,
-        unit: 0,
-        number: 0,
-        cents,
-    };
-    entries[place] = income;
+    less.checked_add_signed(flow as i128) == Some(more)
 }
 
 impl ClearedSession<'_> {
@@ -120,9 +103,7 @@ impl ClearedSession<'_> {
     pub(crate) fn agents_known(self, accounts: &[Account]) -> bool
         ensures { Decides result (KnownAgents (outcome_of self.entry) accounts.now) }
     {
-        let one = self.one.agents_known(accounts);
-        let two = self.two.agents_known(accounts);
-        one && two
+        self.one.agents_known(accounts) && self.two.agents_known(accounts)
     }
 
     // How many entries the session has: one for each matched block, and the congestion income.
@@ -137,8 +118,7 @@ impl ClearedSession<'_> {
         ensures value { result ≡ income_of (outcome_of self.entry) }
         ensures small { unsigned_abs result ≤ 2 ^ 60 }
     {
-        let session = &self;
-        congestion_income(session.flow, session.one.price, session.two.price)
+        congestion_income(self.flow, self.one.price, self.two.price)
     }
 
     // The cents of the blocks' entries that go to the agent.
@@ -154,8 +134,7 @@ impl ClearedSession<'_> {
         ensures value { result ≡ total (λ e. e.cents) (entries_of (outcome_of self.entry)) }
         ensures small { unsigned_abs result ≤ 2 ^ 126 + 2 ^ 60 }
     {
-        let blocks = self.one.total_cents() + self.two.total_cents();
-        blocks + self.income() as i128
+        self.one.total_cents() + self.two.total_cents() + self.income() as i128
     }
 
     // The residue of the session: what all its entries lack of zero.
@@ -173,8 +152,10 @@ impl ClearedSession<'_> {
         requires { length (entries_of (outcome_of self)) ≤ length entries.old }
         ensures { entries.new ≡ written 0 (entries_of (outcome_of self.entry)) entries.old }
     {
-        let next = self.one.write(entries, 0);
-        let last = self.two.write(entries, next);
-        write_income(entries, last, self.income());
+        let first = self.one.matched_blocks() as usize;
+        let second = self.two.matched_blocks() as usize;
+        self.one.write(entries);
+        self.two.write(&mut entries[first..]);
+        entries[first + second] = Entry::income(self.income());
     }
 }

@@ -12,6 +12,7 @@ ghost use Rattle.settlement.specs.Settling.{Reported, Settlement, settle_causes}
 use crate::entry::Entry;
 use crate::postings::{limits_kept, post};
 use crate::session::ClearedSession;
+use crate::totals::Totals;
 use market::account::Account;
 use market::refusal::Refusal;
 use std::fmt;
@@ -31,40 +32,42 @@ impl fmt::Display for Settled {
     ghost output = { λ s. Some (settled_text s) };
 
     fn fmt<W: fmt::Write>(&self, f: &mut fmt::Formatter<W>) -> fmt::Result {
-        let income = self.income;
-        let residue = self.residue;
+        let Settled {
+            income,
+            residue,
+            ..
+        } = *self;
         write!(f, "(settled (income {income}) (residue {residue}))")
     }
 }
 
 // The report of a settlement that is accepted.
-fn report(session: ClearedSession<'_>, entries: usize, income: i64, residue: i64) -> Settled
+fn report(session: ClearedSession<'_>, entries: usize, totals: Totals) -> Settled
     requires balanced { Balanced (outcome_of session) × (entries ≡ length (entries_of (outcome_of session))) }
-    requires position_limits { PositionWithinLimits (income +ℤ income_of (outcome_of session)) × PositionWithinLimits (residue +ℤ residue_of (outcome_of session)) }
-    ensures { Reported (outcome_of session.entry) income residue result }
+    requires position_limits { PositionWithinLimits (totals.income +ℤ income_of (outcome_of session)) × PositionWithinLimits (totals.residue +ℤ residue_of (outcome_of session)) }
+    ensures { Reported (outcome_of session.entry) totals.income totals.residue result }
 {
-    let session_income = session.income();
-    let session_residue = session.residue() as i64;
+    let income = session.income();
+    let residue = session.residue() as i64;
     Settled {
         entries,
-        income: session_income,
-        residue: session_residue,
-        total_income: income + session_income,
-        total_residue: residue + session_residue,
+        income,
+        residue,
+        total_income: totals.income + income,
+        total_residue: totals.residue + residue,
     }
 }
 
 // Writes the entries of a session, posts them to the accounts, and reports the new income and residue of the exchange, whose
-// income and residue are given. The accounts are the counted ones.
+// totals so far are given. The accounts are the counted ones.
 pub fn settle(
     session: ClearedSession<'_>,
     accounts: &mut [Account],
     entries: &mut [Entry],
-    income: i64,
-    residue: i64,
+    totals: Totals,
 ) -> Result<Settled, Refusal>
-    ensures cause { FirstCause (settle_causes (outcome_of session.entry) accounts.old entries.old income residue) result }
-    ensures settlement { Settlement (outcome_of session.entry) income residue accounts.old accounts.new entries.old entries.new result }
+    ensures cause { FirstCause (settle_causes (outcome_of session.entry) accounts.old entries.old totals.income totals.residue) result }
+    ensures settlement { Settlement (outcome_of session.entry) totals.income totals.residue accounts.old accounts.new entries.old entries.new result }
 {
     if !session.is_balanced() {
         return Err(Refusal::TableDisturbed);
@@ -76,10 +79,10 @@ pub fn settle(
     if (entries.len() as u128) < count {
         return Err(Refusal::EntryPlaces);
     }
-    if !limits_kept(session, &*accounts, income, residue) {
+    if !limits_kept(session, &*accounts, totals) {
         return Err(Refusal::PositionLimit);
     }
-    let settled = report(session, count as usize, income, residue);
+    let settled = report(session, count as usize, totals);
     session.write_entries(entries);
     post(session, accounts);
     Ok(settled)

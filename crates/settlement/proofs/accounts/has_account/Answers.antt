@@ -1,25 +1,16 @@
-use Rattle.std.proofs.Common.{◌≡◌, get_or, pos, sym, ◌∙◌, arith}
-use Rattle.std.proofs.lemmas.List.{at_drop_all}
+use Rattle.std.proofs.Common.{rules, ◌∙◌, eqb, refl, ◌||◌, tests}
+use Rattle.std.specs.List.{list_any}
+use Rattle.std.proofs.lemmas.Iterator.{YieldsList-from_slice}
+use Rattle.std.proofs.lemmas.Iterator.Search.{any_from_yields_List}
+use Rattle.std.proofs.lemmas.List.Recursion.{same_from_clauses}
 use Rattle.market.specs.declared.account.Account.{Account}
 use Rattle.settlement.specs.Postings.{has_account}
-use Rattle.settlement.proofs.Owners.{has_here, has_later}
 use Rattle.settlement.proofs.accounts.has_account.Goals as goal
 
-pub returns-then-account-agent : goal.returns-then-account-agent
-returns-then-account-agent c =
-    let xs = c.args.accounts.now in
-    let i = c.loop-account.account-index in
-    let blank : Account = record { agent = 0; position = pos 0 } in
-    let own : (get_or xs i blank).agent ≡ c.args.agent = omega arith in
-    sym (has_here xs i c.args.agent blank c.loop-account-test.true own) ∙ c.loop-account.invariant
-
-pub loop-account-preserved : goal.loop-account-preserved
-loop-account-preserved c =
-    let xs = c.args.accounts.now in
-    let i = c.loop-account.account-index in
-    let blank : Account = record { agent = 0; position = pos 0 } in
-    let other : (get_or xs i blank).agent ≡ c.args.agent → ⊥ = λ e. omega arith in
-    sym (has_later xs i c.args.agent blank c.loop-account-test.true other) ∙ c.loop-account.invariant
-
 pub returns : goal.returns
-returns c = sym (at_drop_all (λ ys. has_account ys c.args.agent) c.args.accounts.now c.loop-account.account-index c.loop-account-test.false) ∙ c.loop-account.invariant
+returns c =
+    let agent = c.args.agent in
+    let xs = c.args.accounts.now in
+    let own = λ (a : Account). eqb a.agent agent in
+    let found = any_from_yields_List own _ _ c.any.result c.any.ensures.ran (YieldsList-from_slice xs cc) (λ x b q k. search (rules, tests)) in
+    found ∙ same_from_clauses (list_any own) (λ ys. has_account ys agent) (λ a b. own a || b) refl (λ _ _. refl) (λ _ _. refl) xs

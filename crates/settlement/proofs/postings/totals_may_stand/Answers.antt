@@ -1,26 +1,20 @@
-use Rattle.std.proofs.Common.{◌≡◌, ℤ, ◌+ℤ◌, Decides, subst, arith, w64, to_z, of_z}
-use mir.Syntax.{w128}
+use Rattle.std.proofs.Common.{◌+ℤ◌, arith, w64, SFits, rules}
 use Rattle.std.proofs.lemmas.Int.{ints}
-use Rattle.market.specs.Limits.{PositionWithinLimits}
 use Rattle.settlement.specs.Postings.{income_of, residue_of}
 use Rattle.settlement.specs.Sessions.{outcome_of}
-use Rattle.settlement.proofs.Deciding.{decides_first, decides_second}
+use Rattle.settlement.proofs.Deciding.{decides_at, decides_first, decides_second}
 use Rattle.settlement.proofs.postings.totals_may_stand.Goals as goal
 
-pub overflow_add-residue : goal.overflow_add-residue
-overflow_add-residue c = omega (arith, ints, c.residue.ensures.bound)
-
-pub returns-then-incomes : goal.returns-then-incomes
-returns-then-incomes c =
+pub returns-then-may_stand : goal.returns-then-may_stand
+returns-then-may_stand c =
     let o = outcome_of c.args.session in
-    let i : to_z w128 (of_z w128 (to_z w128 (of_z w128 (to_z w64 (of_z w64 c.args.income))) +ℤ to_z w128 (of_z w128 (to_z w64 (of_z w64 c.income.result))))) ≡ c.args.income +ℤ income_of o = omega (arith, ints, c.income.ensures.value) in
-    let r : to_z w128 (of_z w128 (to_z w128 (of_z w128 (to_z w64 (of_z w64 c.args.residue))) +ℤ to_z w128 (of_z w128 c.residue.result))) ≡ c.args.residue +ℤ residue_of o = omega (arith, ints, c.residue.ensures.value, c.residue.ensures.bound) in
-    decides_second (λ p q. (p, q)) (λ pq. pq.1) c.if-incomes.true
-    (subst (λ (z : ℤ). Decides c.may_stand-incomes.result (PositionWithinLimits z)) i c.may_stand-incomes.ensures)
-    (subst (λ (z : ℤ). Decides c.may_stand-residues.result (PositionWithinLimits z)) r c.may_stand-residues.ensures)
+    let i : SFits w64 c.args.totals.income = search rules in
+    let r : SFits w64 c.args.totals.residue = search rules in
+    decides_second (λ p q. (p, q)) (λ pq. pq.1) c.if-may_stand.true
+    (decides_at (c.args.totals.income +ℤ income_of o) c.may_stand.ensures (omega (arith, ints, c.income.ensures.value)))
+    (decides_at (c.args.totals.residue +ℤ residue_of o) c.may_stand-then-may_stand.ensures (omega (arith, ints, c.residue.ensures.value, c.residue.ensures.bound)))
 
-pub returns-else-incomes : goal.returns-else-incomes
-returns-else-incomes c =
-    let o = outcome_of c.args.session in
-    let i : to_z w128 (of_z w128 (to_z w128 (of_z w128 (to_z w64 (of_z w64 c.args.income))) +ℤ to_z w128 (of_z w128 (to_z w64 (of_z w64 c.income.result))))) ≡ c.args.income +ℤ income_of o = omega (arith, ints, c.income.ensures.value) in
-    decides_first (λ pq. pq.0) c.if-incomes.false (subst (λ (z : ℤ). Decides c.may_stand-incomes.result (PositionWithinLimits z)) i c.may_stand-incomes.ensures)
+pub returns-else-may_stand : goal.returns-else-may_stand
+returns-else-may_stand c =
+    let i : SFits w64 c.args.totals.income = search rules in
+    decides_first (λ pq. pq.0) c.if-may_stand.false (decides_at (c.args.totals.income +ℤ income_of (outcome_of c.args.session)) c.may_stand.ensures (omega (arith, ints, c.income.ensures.value)))

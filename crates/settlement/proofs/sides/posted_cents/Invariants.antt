@@ -1,10 +1,10 @@
-use Rattle.std.proofs.Common.{◌≡◌, ◌*◌, ◌^◌, ◌≤◌, drop, ◌+ℤ◌, nat_abs}
-use Rattle.settlement.specs.Entries.{side_entries}
+use Rattle.std.proofs.Common.{◌≡◌, ◌*◌, ◌^◌, ◌≤◌, take, nat_abs}
+use Rattle.settlement.specs.Entries.{side_entries, trade_of}
 use Rattle.settlement.specs.Postings.{posted}
 use Rattle.settlement.proofs.sides.posted_cents.Given as goal
 
--- what is left makes up the sum
 abbrev pub invariant-loop-row : goal.invariant-loop-row
-invariant-loop-row g l =
-    (l.sum +ℤ posted l.agent (side_entries g.B.Traded.trade l.price (drop l.row-index l.blocks)) ≡ posted l.agent (side_entries g.B.Traded.trade l.price l.blocks))
-    × (nat_abs l.sum ≤ l.row-index * 2 ^ 60)
+invariant-loop-row g l = record {
+  value : l.sum ≡ posted l.agent (side_entries (trade_of g.B.BlockRow.held g.B.BlockRow.traded) l.price (take l.row-index l.blocks));
+  small : nat_abs l.sum ≤ l.row-index * 2 ^ 60;
+}

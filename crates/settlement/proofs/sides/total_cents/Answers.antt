@@ -1,27 +1,13 @@
-use Rattle.std.proofs.Common.{ap, arith, w32, to_z, of_z}
-use Rattle.std.proofs.lemmas.List.{at_drop_all}
-use Rattle.std.proofs.lemmas.Int.{ints, to_z-of_z}
-use Rattle.settlement.specs.Entries.{side_entries}
-use Rattle.settlement.specs.Postings.{total}
-use Rattle.settlement.proofs.Rows.{total_step}
+use Rattle.std.proofs.Common.{arith, w32, to_z, of_z}
+use Rattle.std.proofs.lemmas.Int.{ints}
+use Rattle.settlement.specs.Entries.{trade_of}
+use Rattle.settlement.proofs.Rows.{total_more}
 use Rattle.settlement.proofs.sides.total_cents.Goals as goal
-
-pub loop-row-init : goal.loop-row-init
-loop-row-init g c = (omega (arith, ints), omega arith)
-
-pub overflow_add-sum : goal.overflow_add-sum
-overflow_add-sum g c = omega (arith, ints, c.loop-row.invariant.1, c.row_cents.ensures.small)
 
 pub loop-row-preserved : goal.loop-row-preserved
 loop-row-preserved g c =
-    let p = to_z w32 (of_z w32 c.args.price) in
-    let step = total_step g.B.Traded.trade p (λ e. e.cents) c.args.blocks.now c.loop-row.row-index c.row-item.result c.loop-row-test.true c.row-item.is in
-    (omega (arith, ints, step, c.loop-row.invariant.0, c.row_cents.ensures.value), omega (arith, ints, c.loop-row.invariant.1, c.row_cents.ensures.small))
-
-pub returns : goal.returns
-returns g c =
-    let t = g.B.Traded.trade in
-    let p = to_z w32 (of_z w32 c.args.price) in
-    let all = at_drop_all (λ xs. total (λ e. e.cents) (side_entries t p xs)) c.args.blocks.now c.loop-row.row-index c.loop-row-test.false in
-    let same = ap (λ z. total (λ e. e.cents) (side_entries t z c.args.blocks.now)) (to_z-of_z w32 c.args.price c.ranges.price) in
-    record { value = omega (arith, ints, all, same, c.loop-row.invariant.0); small = omega (arith, ints, c.loop-row.invariant.1) }
+    let more = total_more (trade_of g.B.BlockRow.held g.B.BlockRow.traded) (to_z w32 (of_z w32 c.args.price)) c.args.blocks.now c.loop-row.row-index c.row-item.result c.loop-row-test.true c.row-item.is (λ e. e.cents) in
+    record {
+      value = omega (arith, ints, more, c.loop-row.invariant.value, c.row_cents.ensures.value);
+      small = omega (arith, ints, c.loop-row.invariant.small, c.row_cents.ensures.small);
+    }

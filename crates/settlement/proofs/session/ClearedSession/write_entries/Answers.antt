@@ -1,22 +1,22 @@
-use Rattle.std.proofs.Common.{◌≡◌, ◌+◌, ◌≤◌, [], ◌∷◌, ◌++◌, length, sym, ap, ◌∙◌, arith, w64, to_z, of_z}
+use Rattle.std.proofs.Common.{◌≡◌, ◌+◌, ◌-◌, ◌<◌, ◌≤◌, [], ◌∷◌, ◌++◌, length, set, sym, ap, ◌∙◌, arith, length-append, w64, to_z, of_z}
+use borrow.Rule.Slice.PartMut.{put_mid}
 use Rattle.std.proofs.lemmas.Int.{ints}
 use Rattle.settlement.specs.Entries.{entries_of, entry, income_due, zone_entries}
 use Rattle.settlement.specs.Writing.{written}
 use Rattle.settlement.specs.Sessions.{outcome_of}
-use Rattle.settlement.specs.declared.entry.Entry.{Entry}
 use Rattle.settlement.proofs.Parts.{block_parts, entry_parts, session_count}
-use Rattle.settlement.proofs.Writes.{written_three}
+use Rattle.settlement.proofs.Writes.{length_written, written_behind, written_push}
 use Rattle.settlement.proofs.session.ClearedSession.write_entries.Goals as goal
 
-pub write-next-requires : goal.write-next-requires
-write-next-requires c = omega (arith, session_count (outcome_of c.args.self), c.requires)
-
-pub write-last-requires : goal.write-last-requires
-write-last-requires c = omega (arith, session_count (outcome_of c.args.self), c.requires, c.write-next.ensures.next, c.write-next.auto.entries)
-
-pub write_income-requires : goal.write_income-requires
-write_income-requires c =
-    omega (arith, session_count (outcome_of c.args.self), c.requires, c.write-next.ensures.next, c.write-next.auto.entries, c.write-last.ensures.next, c.write-last.auto.entries)
+pub bounds-entries-first : goal.bounds-entries-first
+bounds-entries-first c =
+    let o = outcome_of c.args.self in
+    let one = zone_entries o.one in
+    let two = zone_entries o.two in
+    let xs = c.args.entries.now in
+    let fit : length one + length two ≤ length xs = omega (arith, session_count o, c.requires) in
+    let both = written_behind one two xs c.write.new.entries c.write-2.new.entries c.matched_blocks-first.result c.matched_blocks-first.ensures.value fit c.write.ensures c.write-2.ensures in
+    omega (arith, ap length both, length_written 0 (one ++ two) xs (omega (arith, fit, length-append one two)), session_count o, c.requires, c.matched_blocks-first.ensures.value, c.matched_blocks-second.ensures.value)
 
 pub returns : goal.returns
 returns c =
@@ -24,10 +24,16 @@ returns c =
     let one = zone_entries o.one in
     let two = zone_entries o.two in
     let xs = c.args.entries.now in
-    let wrote : Entry = record { agent = 0; unit = 0; number = 0; cents = to_z w64 (of_z w64 c.income.result) } in
-    let out : to_z w64 (of_z w64 c.income.result) ≡ c.income.result = omega (arith, ints) in
-    let same : wrote ≡ entry (income_due o) = ap (λ z. record { agent = 0; unit = 0; number = 0; cents = z }) (out ∙ c.income.ensures.value) in
+    let n = c.matched_blocks-first.result in
+    let place = n + c.matched_blocks-second.result in
+    let first = c.write.new.entries in
+    let blocks = put_mid n (length first - n) first c.write-2.new.entries in
+    let fit : length one + length two ≤ length xs = omega (arith, session_count o, c.requires) in
+    let both = written_behind one two xs first c.write-2.new.entries n c.matched_blocks-first.ensures.value fit c.write.ensures c.write-2.ensures in
+    let size : place ≡ length (one ++ two) = omega (arith, length-append one two, c.matched_blocks-first.ensures.value, c.matched_blocks-second.ensures.value) in
+    let same : length blocks ≡ length xs = ap length both ∙ length_written 0 (one ++ two) xs (omega (arith, fit, length-append one two)) in
+    let room : place < length blocks = omega (arith, size, same, session_count o, c.requires, length-append one two) in
     let all : entries_of o ≡ (one ++ two) ++ entry (income_due o) ∷ [] = entry_parts o ∙ ap (λ es. es ++ entry (income_due o) ∷ []) (block_parts o) in
-    let size : length one + length two + 1 ≤ length xs = omega (arith, session_count o, c.requires) in
-    c.write_income.ensures ∙ written_three one two wrote xs c.write-next.new.entries c.write-last.new.entries c.write-next.result c.write-last.result size c.write-next.ensures.entries c.write-next.ensures.next c.write-last.ensures.entries c.write-last.ensures.next
-    ∙ ap (λ y. written 0 ((one ++ two) ++ y ∷ []) xs) same ∙ ap (λ es. written 0 es xs) (sym all)
+    let out : to_z w64 (of_z w64 c.income.result) ≡ c.income.result = omega (arith, ints) in
+    let last : c.income-2.result ≡ entry (income_due o) = c.income-2.ensures ∙ ap (λ z. record { agent = 0; unit = 0; number = 0; cents = z }) (out ∙ c.income.ensures.value) in
+    ap (set blocks place) last ∙ written_push (one ++ two) xs blocks place (entry (income_due o)) both size room same ∙ ap (λ es. written 0 es xs) (sym all)

@@ -6,14 +6,14 @@ use Rattle.settlement.specs.declared.entry.Entry.{Entry}
 use Rattle.settlement.proofs.Parts.{both_true, both_false, zone_parts}
 use Rattle.settlement.proofs.session.ClearedZone.agents_known.Goals as goal
 
-pub returns-then-sellers : goal.returns-then-sellers
-returns-then-sellers c =
+pub returns-then-agents_known : goal.returns-then-agents_known
+returns-then-agents_known c =
     let z = zone_of c.args.self in
     let known : Entry → Type 0 = λ e. has_account c.args.accounts.now e.agent ≡ true in
-    both_true known (side_entries selling z.price z.sales) (side_entries buying z.price z.purchases) (zone_entries z) (zone_parts z) c.if-sellers.true (c.agents_known-sellers.ensures z.price) (c.agents_known-buyers.ensures z.price)
+    both_true known (side_entries selling z.price z.sales) (side_entries buying z.price z.purchases) (zone_entries z) (zone_parts z) c.if-agents_known.true (c.agents_known.ensures z.price) (c.agents_known-then-agents_known.ensures z.price)
 
-pub returns-else-sellers : goal.returns-else-sellers
-returns-else-sellers c =
+pub returns-else-agents_known : goal.returns-else-agents_known
+returns-else-agents_known c =
     let z = zone_of c.args.self in
     let known : Entry → Type 0 = λ e. has_account c.args.accounts.now e.agent ≡ true in
-    both_false known (side_entries selling z.price z.sales) (side_entries buying z.price z.purchases) (zone_entries z) (zone_parts z) c.if-sellers.false (c.agents_known-sellers.ensures z.price)
+    both_false known (side_entries selling z.price z.sales) (side_entries buying z.price z.purchases) (zone_entries z) (zone_parts z) c.if-agents_known.false (c.agents_known.ensures z.price)

@@ -4,8 +4,8 @@ use Rattle.settlement.specs.Sessions.{zone_of}
 use Rattle.settlement.proofs.Parts.{zone_total}
 use Rattle.settlement.proofs.session.ClearedZone.posted_cents.Goals as goal
 
-pub returns : goal.returns
-returns c =
+pub returns-clause-value : goal.returns-clause-value
+returns-clause-value c =
     let fits : SFits w32 c.args.self.price = search rules in
     let parts = zone_total (λ e. cond (eqb e.agent c.args.agent) e.cents (pos 0)) (zone_of c.args.self) (to_z w32 (of_z w32 c.args.self.price)) (to_z-of_z w32 c.args.self.price fits) in
-    record { value = omega (arith, ints, parts, c.posted_cents.ensures.value, c.posted_cents-2.ensures.value); small = omega (arith, ints, c.posted_cents.ensures.small, c.posted_cents-2.ensures.small) }
+    omega (arith, ints, parts, c.posted_cents.ensures.value, c.posted_cents-2.ensures.value)
