@@ -4,10 +4,9 @@ ghost use Rattle.auction.specs.Books.{money, surplus, total};
 ghost use Rattle.auction.specs.Offers.{part, same_zone};
 ghost use Rattle.auction.specs.Tables.{WorthWithinLimits, book, purchase_blocks, sale_blocks};
 
-use crate::merge::is_in;
 use crate::offer::Offer;
-use crate::row::BlockRow;
 use market::purchase::Purchase;
+use market::row::BlockRow;
 use market::sale::Sale;
 use market::zone::Zone;
 
@@ -15,7 +14,7 @@ use market::zone::Zone;
 fn matched_in(zone: Zone, offer: &Offer) -> u32
     ensures { result ≡ (if same_zone zone offer.now.zone then offer.now.block.matched else 0) }
 {
-    if is_in(zone, offer.zone) {
+    if zone == offer.zone {
         offer.block.matched
     } else {
         0

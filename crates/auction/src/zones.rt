@@ -8,20 +8,20 @@ ghost use Rattle.auction.specs.Tables.{TablesSound, book, purchase_blocks, sale_
 use crate::merge::{merge, write_back};
 use crate::offer::Offer;
 use crate::pool::clear_pool;
-use crate::row::BlockRow;
 use market::purchase::Purchase;
+use market::row::BlockRow;
 use market::sale::Sale;
-use market::zone::{Side, Zone};
+use market::zone::Zone;
 use rules::sharing::SharingRule;
 
 // The rows of one zone as offers: merged with nothing.
-fn load<R: BlockRow>(side: Side, zone: Zone, rows: &[R], offers: &mut [Offer])
+fn load<R: BlockRow>(zone: Zone, rows: &[R], offers: &mut [Offer])
     requires { length offers.old ≡ length rows.now }
     ensures { offers.new ≡ alone zone (map R.held rows.now) }
 {
     match zone {
-        Zone::One => merge(side, rows, &rows[..0], offers),
-        Zone::Two => merge(side, &rows[..0], rows, offers),
+        Zone::One => merge(rows, &rows[..0], offers),
+        Zone::Two => merge(&rows[..0], rows, offers),
     }
 }
 
@@ -42,8 +42,8 @@ pub(crate) fn clear_together<S: SharingRule>(
     ensures bought { bought.new ≡ (cleared (S.SharingRule.meaning rule.now) (together (book sales_one.now purchases_one.now) (book sales_two.now purchases_two.now))).purchases }
     ensures bracket { result ≡ (low_end sold.new bought.new, high_end sold.new bought.new) }
 {
-    merge(Side::Sale, sales_one, sales_two, sold);
-    merge(Side::Purchase, purchases_one, purchases_two, bought);
+    merge(sales_one, sales_two, sold);
+    merge(purchases_one, purchases_two, bought);
     clear_pool(rule, sold, bought, 0, 0)
 }
 
@@ -67,8 +67,8 @@ pub(crate) fn clear_zone<S: SharingRule>(
     ensures low { result.0 ≡ low_end (cleared (S.SharingRule.meaning rule.now) (zone_pool zone (book sales.old purchases.old) brought taken)).sales (cleared (S.SharingRule.meaning rule.now) (zone_pool zone (book sales.old purchases.old) brought taken)).purchases }
     ensures high { result.1 ≡ high_end (cleared (S.SharingRule.meaning rule.now) (zone_pool zone (book sales.old purchases.old) brought taken)).sales (cleared (S.SharingRule.meaning rule.now) (zone_pool zone (book sales.old purchases.old) brought taken)).purchases }
 {
-    load(Side::Sale, zone, sales, sold);
-    load(Side::Purchase, zone, purchases, bought);
+    load(zone, sales, sold);
+    load(zone, purchases, bought);
     let ends = clear_pool(rule, sold, bought, brought, taken);
     write_back(sales, zone, sold);
     write_back(purchases, zone, bought);
