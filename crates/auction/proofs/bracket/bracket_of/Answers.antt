@@ -1,9 +1,8 @@
-use Rattle.std.proofs.Common.{◌≡◌, ℤ, filter, fold, map, ap, ◌∙◌, w32, SFits, to_z, of_z, rules}
+use Rattle.std.proofs.Common.{◌≡◌, ℤ, ap, ◌∙◌, w32, SFits, to_z, of_z, rules}
 use Rattle.std.specs.Int.{int_max, int_min}
 use Rattle.std.proofs.lemmas.Int.{to_z-of_z}
 use Rattle.market.specs.Limits.{lowest_price, highest_price}
 use Rattle.auction.specs.Bracket.{low_end, high_end, highest, lowest, part_left, part_matched}
-use Rattle.auction.specs.Offers.{price_of}
 use Rattle.auction.proofs.Ends.{highest_folded, lowest_folded}
 use Rattle.auction.proofs.bracket.bracket_of.Goals as goal
 

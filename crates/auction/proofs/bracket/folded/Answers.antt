@@ -1,4 +1,4 @@
-use Rattle.std.proofs.Common.{◌≡◌, true, filter, fold, map, List, ℤ, Bor, Iter, ap, ◌∙◌, w32, SFits, to_z, of_z, rules}
+use Rattle.std.proofs.Common.{◌≡◌, true, filter, fold, map, List, Bor, Iter, ap, ◌∙◌, w32, SFits, to_z, of_z, rules}
 use Rattle.std.proofs.lemmas.Int.{to_z-of_z}
 use Rattle.auction.specs.Bracket.{passes}
 use Rattle.auction.specs.Offers.{price_of}
