@@ -5,21 +5,21 @@ use Rattle.std.proofs.ByRecursion.{All-get_or}
 use Rattle.std.proofs.lemmas.List.{append_assoc, take_more_set, drop-set-lt, drop_more}
 use Rattle.market.specs.Limits.{VolumeWithinLimits}
 use Rattle.auction.specs.declared.offer.Offer.{Offer}
-use Rattle.auction.specs.declared.side.Place.{Place}
-use Rattle.auction.specs.declared.side.Place.TheVariants.{Before, Tied, After}
+use Rattle.std.specs.declared.cmp.Ordering.{Ordering}
+use Rattle.std.specs.declared.cmp.Ordering.TheVariants.{Less, Equal, Greater}
 use Rattle.auction.specs.Curve.{behind, nth_price, place, by_place, ahead, tie, fill, match_side, with_matched, nothing}
 use Rattle.auction.specs.Offers.{price_of, volume_of, Sorted}
 use Rattle.auction.proofs.Sides.{blank, place_is, tenths, shared_out}
 
-pub before_le : (v : ℕ) (x : Place) → by_place v 0 0 x ≤ v
-before_le v Before = omega arith
-before_le v Tied = omega arith
-before_le v After = omega arith
+pub before_le : (v : ℕ) (x : Ordering) → by_place v 0 0 x ≤ v
+before_le v Less = omega arith
+before_le v Equal = omega arith
+before_le v Greater = omega arith
 
-pub tied_le : (v : ℕ) (x : Place) → by_place 0 v 0 x ≤ v
-tied_le v Before = omega arith
-tied_le v Tied = omega arith
-tied_le v After = omega arith
+pub tied_le : (v : ℕ) (x : Ordering) → by_place 0 v 0 x ≤ v
+tied_le v Less = omega arith
+tied_le v Equal = omega arith
+tied_le v Greater = omega arith
 
 pub volume_at : (os : List Offer) (i : ℕ) → i < length os → AllByRecursion (λ o. VolumeWithinLimits (volume_of o)) os → volume_of (get_or os i blank) ≤ 100000
 volume_at os i h k = (All-get_or (λ o. VolumeWithinLimits (volume_of o)) os i blank h k).1
@@ -29,7 +29,7 @@ module _ (g : ℕ → ℕ → ℕ → ℕ) (rank : ℤ → ℤ) (m : ℤ) (l s c
   room_at : c + tie rank m (drop i os) ≤ s → c + tie rank m (get_or os i blank ∷ drop (i + 1) os) ≤ s
   room_at k = rw (drop_more os i blank h) at k
 
-  pub tied_room : c + tie rank m (drop i os) ≤ s → (x : Place) → x ≡ place m (rank (price_of (get_or os i blank))) → x ≡ Tied → c + volume_of (get_or os i blank) ≤ s
+  pub tied_room : c + tie rank m (drop i os) ≤ s → (x : Ordering) → x ≡ place m (rank (price_of (get_or os i blank))) → x ≡ Equal → c + volume_of (get_or os i blank) ≤ s
   tied_room k x e t = let k' = rw (sym e ∙ t) at (room_at k) in omega arith
 
   module _ (n c' : ℕ) (e : n ≡ by_place (volume_of (get_or os i blank)) (g l s (c + volume_of (get_or os i blank)) - g l s c) 0 (place m (rank (price_of (get_or os i blank)))))

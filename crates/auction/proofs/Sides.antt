@@ -10,7 +10,7 @@ use Rattle.std.proofs.lemmas.Bool.{cases_lt}
 use Rattle.auction.specs.declared.offer.Offer.{Offer}
 use Rattle.market.specs.declared.zone.Zone.TheVariants.{One}
 use Rattle.auction.specs.Offers.{price_of, volume_of, Sorted}
-use Rattle.auction.specs.declared.side.Place.TheVariants.{Before, Tied, After}
+use Rattle.std.specs.declared.cmp.Ordering.TheVariants.{Less, Equal, Greater}
 use Rattle.auction.specs.Curve.{curve, behind, nth_price, place, ahead, tie}
 
 -- how many tenths a side bids for
@@ -28,7 +28,7 @@ here b bs j h =
 pub there : (b : Offer) (bs : List Offer) (j : ℕ) → volume_of b ≤ j → get_or (curve (b ∷ bs)) j (pos 0) ≡ get_or (curve bs) (j - volume_of b) (pos 0)
 there b bs j h = get_or-append_right (replicate (volume_of b) (price_of b)) (curve bs) (volume_of b) j (pos 0) (length-replicate (volume_of b) (price_of b)) h
 
-pub place_is : (m r : ℤ) → ((place m r ≡ Before) × (r <ℤ m)) ⊎ (((place m r ≡ Tied) × (r ≡ m)) ⊎ ((place m r ≡ After) × (m <ℤ r)))
+pub place_is : (m r : ℤ) → ((place m r ≡ Less) × (r <ℤ m)) ⊎ (((place m r ≡ Equal) × (r ≡ m)) ⊎ ((place m r ≡ Greater) × (m <ℤ r)))
 unfolding place
 place_is m r =
     by_lt_z r m
@@ -167,13 +167,13 @@ walked (b ∷ bs) (suc i) u d h k =
     let e : (bid (b ∷ take i bs) + u) - volume_of b ≡ bid (take i bs) + u = omega arith in
     (omega (arith, ih, c, bid_cons b bs), there b bs (bid (b ∷ take i bs) + u) (omega arith) ∙ (rw e ih.1))
 
-pub place_before : (m r : ℤ) → r <ℤ m → place m r ≡ Before
+pub place_before : (m r : ℤ) → r <ℤ m → place m r ≡ Less
 place_before m r h = elim (place_is m r) [ inl e ↦ e.0 | inr (inl e) ↦ absurd (omega (arith, ints, e.1)) | inr (inr e) ↦ absurd (omega (arith, ints, e.1)) ]
 
-pub place_tied : (m r : ℤ) → r ≡ m → place m r ≡ Tied
+pub place_tied : (m r : ℤ) → r ≡ m → place m r ≡ Equal
 place_tied m r h = elim (place_is m r) [ inl e ↦ absurd (omega (arith, ints, e.1)) | inr (inl e) ↦ e.0 | inr (inr e) ↦ absurd (omega (arith, ints, e.1)) ]
 
-pub place_after : (m r : ℤ) → m <ℤ r → place m r ≡ After
+pub place_after : (m r : ℤ) → m <ℤ r → place m r ≡ Greater
 place_after m r h = elim (place_is m r) [ inl e ↦ absurd (omega (arith, ints, e.1)) | inr (inl e) ↦ absurd (omega (arith, ints, e.1)) | inr (inr e) ↦ e.0 ]
 
 -- k tenths at the price p, as an offer: the curve of a list behind it is the list's curve behind the tenths

@@ -1,7 +1,10 @@
 -- The steps of a clearing make up the whole of it.
-use Rattle.std.proofs.Common.{◌≡◌, ℕ, List, ◌++◌, length, drop, ℤ, pos, ◌-ℤ◌, neg_ℤ, ◌<ℤ◌, sym, refl, ap, ◌∙◌, arith}
+use Rattle.std.proofs.Common.{◌≡◌, ℕ, ◌≤◌, List, ◌++◌, length, drop, ℤ, pos, ◌-ℤ◌, neg_ℤ, ◌<ℤ◌, sym, refl, ap, ◌∙◌, arith}
 use borrow.Author.Differences.{ints}
+use Rattle.std.proofs.lemmas.List.{length-map}
 use Rattle.market.specs.declared.block.Block.{Block}
+use Rattle.market.specs.declared.purchase.Purchase.{Purchase}
+use Rattle.market.specs.declared.sale.Sale.{Sale}
 use Rattle.market.specs.declared.zone.Zone.{Zone}
 use Rattle.market.specs.declared.zone.Zone.TheVariants.{One, Two}
 use Rattle.auction.specs.declared.line.Line.{Line}
@@ -13,27 +16,31 @@ use Rattle.auction.specs.Books.{Book, exported, imported, total}
 use Rattle.auction.specs.Clearing.{Pool, Room, book_of, cleared, exporting, importing, price_in, together}
 use Rattle.auction.specs.Offers.{part}
 use Rattle.auction.specs.Steps.{CommonFound, Clears}
+use Rattle.auction.specs.Tables.{sale_blocks, purchase_blocks, book}
 use Rattle.auction.proofs.Best.{whole₁, whole₂, whole_balanced, sells_enough, buys_enough, over_there, over_back}
 use Rattle.auction.proofs.Pools.{exporting_room, importing_room}
 use Rattle.auction.proofs.Tables.{kept_length, written}
 
 -- a book by its two lists
-pub book_parts : (ss ss' ps ps' : List Block) → ss ≡ ss' → ps ≡ ps' → ◌≡◌ {A = Book} (record { sales = ss; purchases = ps }) (record { sales = ss'; purchases = ps' })
+book_parts : (ss ss' ps ps' : List Block) → ss ≡ ss' → ps ≡ ps' → ◌≡◌ {A = Book} (record { sales = ss; purchases = ps }) (record { sales = ss'; purchases = ps' })
 book_parts ss ss' ps ps' e e' = rw (e, e') refl
 
--- the rows of one zone, written from a pool that is cleared
-module _ (g : ℕ → ℕ → ℕ → ℕ) (b : Book) (z : Zone) (x : Pool) (e : part z x.sales ≡ b.sales) (e' : part z x.purchases ≡ b.purchases) where
-  pub sales_fit : (os : List Offer) → os ≡ (cleared g x).sales → length (part z os) ≡ length b.sales
-  sales_fit os k = ap (λ (xs : List Offer). length (part z xs)) k ∙ (kept_length g b z x e e').0
+-- the tables of one zone, written from a pool x that is cleared and then holds the offers os and us
+module _ (g : ℕ → ℕ → ℕ → ℕ) (ss : List Sale) (ps : List Purchase) (z : Zone) (x : Pool) (e : part z x.sales ≡ sale_blocks ss) (e' : part z x.purchases ≡ purchase_blocks ps)
+    (os us : List Offer) (k : os ≡ (cleared g x).sales) (k' : us ≡ (cleared g x).purchases) where
+  sales_kept : length (part z os) ≡ length (sale_blocks ss)
+  sales_kept = ap (λ (xs : List Offer). length (part z xs)) k ∙ (kept_length g (book ss ps) z x e e').0
 
-  pub purchases_fit : (os : List Offer) → os ≡ (cleared g x).purchases → length (part z os) ≡ length b.purchases
-  purchases_fit os k = ap (λ (xs : List Offer). length (part z xs)) k ∙ (kept_length g b z x e e').1
+  purchases_kept : length (part z us) ≡ length (purchase_blocks ps)
+  purchases_kept = ap (λ (xs : List Offer). length (part z xs)) k' ∙ (kept_length g (book ss ps) z x e e').1
 
-  pub sales_written : (os : List Offer) → os ≡ (cleared g x).sales → (ws : List Block) → ws ≡ part z os ++ drop (length (part z os)) b.sales → ws ≡ part z (cleared g x).sales
-  sales_written os k ws h = h ∙ written (part z os) b.sales (sales_fit os k) ∙ ap (part z) k
+  pub zone_fits : (length (part z os) ≤ length ss) × (length (part z us) ≤ length ps)
+  zone_fits = (omega (arith, sales_kept, length-map ss (λ s. s.block)), omega (arith, purchases_kept, length-map ps (λ p. p.block)))
 
-  pub purchases_written : (os : List Offer) → os ≡ (cleared g x).purchases → (ws : List Block) → ws ≡ part z os ++ drop (length (part z os)) b.purchases → ws ≡ part z (cleared g x).purchases
-  purchases_written os k ws h = h ∙ written (part z os) b.purchases (purchases_fit os k) ∙ ap (part z) k
+  pub zone_written : (ss' : List Sale) (ps' : List Purchase) → sale_blocks ss' ≡ part z os ++ drop (length (part z os)) (sale_blocks ss) → purchase_blocks ps' ≡ part z us ++ drop (length (part z us)) (purchase_blocks ps) →
+      book ss' ps' ≡ book_of z (cleared g x)
+  zone_written ss' ps' h h' =
+      book_parts _ _ _ _ (h ∙ written (part z os) (sale_blocks ss) sales_kept ∙ ap (part z) k) (h' ∙ written (part z us) (purchase_blocks ps) purchases_kept ∙ ap (part z) k')
 
 module _ (g : ℕ → ℕ → ℕ → ℕ) (f : ℤ → ℤ → ℤ) (forward backward : ℕ) (b₁ b₂ : Book) (l : Line) (p e : ℤ) (h : CommonFound g f forward backward b₁ b₂ l p e) (c₁ c₂ : Book) where
   pub clears_enough : l ≡ Enough → c₁ ≡ book_of One (cleared g (together b₁ b₂)) → c₂ ≡ book_of Two (cleared g (together b₁ b₂)) → Clears g f forward backward b₁ b₂ c₁ c₂ p p e

@@ -16,7 +16,7 @@ use Rattle.auction.specs.Books.{Book, BookSame, BookWithin, SameBids, Within}
 use Rattle.auction.specs.Best.{InOrder, InLimits, BookSound}
 use Rattle.auction.specs.Clearing.{Pool, cleared}
 use Rattle.auction.specs.Ready.{Ready}
-use Rattle.auction.specs.Tables.{sale_blocks, purchase_blocks, book, TablesSound, WorthWithinLimits}
+use Rattle.auction.specs.Tables.{sale_blocks, purchase_blocks, book, TablesSound, TablesWorth, WorthWithinLimits}
 use Rattle.auction.proofs.Duality.{same_first, same_rest, same_none, same_some}
 use Rattle.auction.proofs.Merging.{first_ranked, all_merged, sorted_merged, all_alone, sorted_alone}
 use Rattle.auction.proofs.Pools.{kept_sales, kept_purchases}
@@ -115,8 +115,16 @@ worth_kept (b ∷ bs) (c ∷ cs) same (h, hs) (p, ps) (v, vs) =
     let v' = rw e at v in
     ((p', omega (arith, h, v'.1)), worth_kept bs cs (same_rest b c bs cs same) hs ps vs)
 
-pub tables_worth : (ss : List Sale) (ps : List Purchase) (y : Book) → TablesSound ss ps → BookSame (book ss ps) y → BookWithin y → WorthWithinLimits y.sales × WorthWithinLimits y.purchases
-tables_worth ss ps y h same within = (
-  worth_kept (sale_blocks ss) y.sales same.sales_same within.sales_within (sale_prices ss h.sales.within) (sale_volumes ss h.sales.within),
-  worth_kept (purchase_blocks ps) y.purchases same.purchases_same within.purchases_within (purchase_prices ps h.purchases.within) (purchase_volumes ps h.purchases.within),
-)
+same_length : (bs cs : List Block) → SameBids bs cs → length cs ≡ length bs
+same_length bs cs e = sym (length-map cs (λ b. b.bid)) ∙ ap length (sym e) ∙ length-map bs (λ b. b.bid)
+
+pub tables_worth : (ss : List Sale) (ps : List Purchase) (ss' : List Sale) (ps' : List Purchase) (y : Book) → TablesSound ss ps → book ss' ps' ≡ y → BookSame (book ss ps) y → BookWithin y → TablesWorth ss' ps'
+tables_worth ss ps ss' ps' y h e same within =
+    let bs : sale_blocks ss' ≡ y.sales = ap (λ (b : Book). b.sales) e in
+    let cs : purchase_blocks ps' ≡ y.purchases = ap (λ (b : Book). b.purchases) e in
+    record {
+      sales = rw bs (worth_kept (sale_blocks ss) y.sales same.sales_same within.sales_within (sale_prices ss h.sales.within) (sale_volumes ss h.sales.within));
+      purchases = rw cs (worth_kept (purchase_blocks ps) y.purchases same.purchases_same within.purchases_within (purchase_prices ps h.purchases.within) (purchase_volumes ps h.purchases.within));
+      few_sales = omega (arith, length-map ss' (λ s. s.block), ap length bs, same_length _ _ same.sales_same, length-map ss (λ s. s.block), h.few_sales);
+      few_purchases = omega (arith, length-map ps' (λ p. p.block), ap length cs, same_length _ _ same.purchases_same, length-map ps (λ p. p.block), h.few_purchases);
+    }

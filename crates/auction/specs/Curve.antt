@@ -2,8 +2,8 @@
 -- price of the block that holds it; the matched amount; and how the blocks of the marginal price share.
 use Rattle.std.specs.Prelude.{◌≡◌, ℕ, zero, suc, ◌+◌, ◌-◌, ◌≤◌, min, Bool, cond, ◌⊎◌, List, [], ◌∷◌, ◌++◌, map, length, replicate, ℤ, pos, ◌≤ℤ◌, int_le, int_lt, slice_index_or}
 use Rattle.auction.specs.declared.offer.Offer.{Offer}
-use Rattle.auction.specs.declared.side.Place.{Place}
-use Rattle.auction.specs.declared.side.Place.TheVariants.{Before, Tied, After}
+use Rattle.std.specs.declared.cmp.Ordering.{Ordering}
+use Rattle.std.specs.declared.cmp.Ordering.TheVariants.{Less, Equal, Greater}
 use Rattle.auction.specs.Offers.{price_of, volume_of}
 
 -- the price of each tenth, block by block
@@ -46,13 +46,13 @@ pub record Crossed (c d : List ℤ) (q : ℕ) (u v : ℤ) : Type 0 where
   pub purchase : 1 ≤ q → v ≡ nth_price d q
 
 -- where a rank stands to the marginal one
-unfoldable pub place : ℤ → ℤ → Place
-place m r = cond (int_lt r m) Before (cond (int_lt m r) After Tied)
+unfoldable pub place : ℤ → ℤ → Ordering
+place m r = cond (int_lt r m) Less (cond (int_lt m r) Greater Equal)
 
-abbrev pub by_place : {A : Type 0} → A → A → A → Place → A
-by_place x y z Before = x
-by_place x y z Tied = y
-by_place x y z After = z
+abbrev pub by_place : {A : Type 0} → A → A → A → Ordering → A
+by_place x y z Less = x
+by_place x y z Equal = y
+by_place x y z Greater = z
 
 module _ (rank : ℤ → ℤ) (m : ℤ) where
   -- the tenths ranked before m, and those ranked m

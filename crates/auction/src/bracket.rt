@@ -1,7 +1,8 @@
 // The bracket: the prices that the matched volumes leave open.
-ghost use Rattle.std.specs.Prelude.{◌≡◌, if◌then◌else◌};
-ghost use Rattle.std.specs.Int.{int_max, int_min};
-ghost use Rattle.auction.specs.Bracket.{high_end, highest, low_end, lowest, passes};
+ghost use Rattle.std.specs.Prelude.{◌≡◌, ℤ, filter, fold, map};
+ghost use Rattle.std.specs.Iterator.{ActsAsOnTwo};
+ghost use Rattle.auction.specs.Bracket.{high_end, low_end, passes};
+ghost use Rattle.auction.specs.Offers.{price_of};
 
 use crate::offer::Offer;
 use market::limits::{MAX_PRICE, MIN_PRICE};
@@ -22,53 +23,31 @@ fn counts(offer: &Offer, part: Part) -> bool
     }
 }
 
-fn raised(counts: bool, price: i32, high: i32) -> i32
-    ensures { result ≡ (if counts then int_max price high else high) }
+fn price_of(offer: &Offer) -> i32
+    ensures { result ≡ price_of offer.now }
 {
-    if counts { price.max(high) } else { high }
+    offer.block.bid.price
 }
 
-fn lowered(counts: bool, price: i32, low: i32) -> i32
-    ensures { result ≡ (if counts then int_min price low else low) }
+// `start` and the prices of the offers that count, folded by `pick`.
+fn folded<F: Fn(i32, i32) -> i32>(offers: &[Offer], part: Part, start: i32, pick: F) -> i32
+    requires { F.IsAlwaysCallable pick }
+    ensures { (h : ℤ → ℤ → ℤ) → ActsAsOnTwo F.FnMut pick h → result ≡ fold h start (map price_of (filter (passes part) offers.now)) }
 {
-    if counts { price.min(low) } else { low }
-}
-
-// The highest of `start` and the prices of the offers that count.
-fn highest_price(offers: &[Offer], part: Part, start: i32) -> i32
-    ensures { result ≡ highest (passes part) start offers.now }
-{
-    let mut price = start;
-    for offer in offers {
-        price = raised(counts(offer, part), offer.block.bid.price, price);
-    }
-    price
-}
-
-// The lowest of `start` and the prices of the offers that count.
-fn lowest_price(offers: &[Offer], part: Part, start: i32) -> i32
-    ensures { result ≡ lowest (passes part) start offers.now }
-{
-    let mut price = start;
-    for offer in offers {
-        price = lowered(counts(offer, part), offer.block.bid.price, price);
-    }
-    price
+    offers
+        .iter()
+        .filter(|offer| counts(offer, part))
+        .map(price_of)
+        .fold(start, pick)
 }
 
 // The low end and the high end.
 pub fn bracket_of(sales: &[Offer], purchases: &[Offer]) -> (i32, i32)
     ensures { result ≡ (low_end sales.now purchases.now, high_end sales.now purchases.now) }
 {
-    let low = highest_price(
-        sales,
-        Part::Matched,
-        highest_price(purchases, Part::Left, MIN_PRICE),
-    );
-    let high = lowest_price(
-        purchases,
-        Part::Matched,
-        lowest_price(sales, Part::Left, MAX_PRICE),
-    );
+    let left_low = folded(purchases, Part::Left, MIN_PRICE, i32::max);
+    let low = folded(sales, Part::Matched, left_low, i32::max);
+    let left_high = folded(sales, Part::Left, MAX_PRICE, i32::min);
+    let high = folded(purchases, Part::Matched, left_high, i32::min);
     (low, high)
 }

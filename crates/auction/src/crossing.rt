@@ -1,5 +1,5 @@
 // Where the curves of the two sides meet.
-ghost use Rattle.std.specs.Prelude.{◌≡◌, ◌-◌, ◌≤◌, min, [], length, drop};
+ghost use Rattle.std.specs.Prelude.{◌≡◌, ◌-◌, ◌≤◌, [], length, drop};
 ghost use Rattle.std.specs.List.{AllByRecursion};
 ghost use Rattle.market.specs.Limits.{VolumeWithinLimits, lowest_price, highest_price};
 ghost use Rattle.auction.specs.Curve.{Crossed, behind};
@@ -23,12 +23,6 @@ pub struct Crossing {
     pub amount: u32,
     pub sale: i32,
     pub purchase: i32,
-}
-
-fn least(a: u32, b: u32) -> u32
-    ensures { result ≡ min a b }
-{
-    if a <= b { a } else { b }
 }
 
 // The same place, with the next offer taken up where no tenth is left.
@@ -98,7 +92,7 @@ pub(crate) fn find_crossing(
         purchases,
     );
     while sale.left > 0 && purchase.left > 0 && sale.price <= purchase.price {
-        let step = least(sale.left, purchase.left);
+        let step = sale.left.min(purchase.left);
         amount += step;
         last_sale = sale.price;
         last_purchase = purchase.price;

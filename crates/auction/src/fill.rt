@@ -2,24 +2,25 @@
 ghost use Rattle.std.specs.Prelude.{◌≡◌, ◌+◌, ◌-◌, ◌≤◌, length, ◌≤ℤ◌};
 ghost use Rattle.std.specs.List.{AllByRecursion};
 ghost use Rattle.market.specs.Limits.{VolumeWithinLimits};
-ghost use Rattle.auction.specs.declared.side.Place.TheVariants.{Tied};
+ghost use Rattle.std.specs.declared.cmp.Ordering.TheVariants.{Equal};
 ghost use Rattle.auction.specs.Curve.{ahead, behind, by_place, fill, match_side, nothing, nth_price, place, tie};
 ghost use Rattle.auction.specs.Offers.{price_of, rank_of, volume_of};
 ghost use Rattle.auction.specs.Ready.{Ready};
 
 use crate::offer::Offer;
-use crate::side::{Place, place_of};
+use crate::side::place_of;
 use market::zone::Side;
 use rules::sharing::SharingRule;
+use std::cmp::Ordering;
 
 // The volume, as tenths ahead of the marginal price and as tenths at it.
-fn counted(place: Place, volume: u32) -> (u32, u32)
+fn counted(place: Ordering, volume: u32) -> (u32, u32)
     ensures { result ≡ (by_place volume 0 0 place, by_place 0 volume 0 place) }
 {
     match place {
-        Place::Before => (volume, 0),
-        Place::Tied => (0, volume),
-        Place::After => (0, 0),
+        Ordering::Less => (volume, 0),
+        Ordering::Equal => (0, volume),
+        Ordering::Greater => (0, 0),
     }
 }
 
@@ -47,27 +48,27 @@ fn standing(offers: &[Offer], side: Side, marginal: i32) -> (u32, u32)
 // are ahead of it.
 fn part<S: SharingRule>(
     rule: &S,
-    place: Place,
+    place: Ordering,
     volume: u32,
     amount: u32,
     tied: u32,
     passed: u32,
 ) -> (u32, u32)
     requires enough { amount ≤ tied }
-    requires room { place ≡ Tied → passed + volume ≤ tied }
+    requires room { place ≡ Equal → passed + volume ≤ tied }
     ensures matched { result.0 ≡ by_place volume (S.SharingRule.meaning rule.now amount tied (passed + volume) - S.SharingRule.meaning rule.now amount tied passed) 0 place }
     ensures next { result.1 ≡ by_place passed (passed + volume) passed place }
 {
     match place {
-        Place::Before => (volume, passed),
-        Place::Tied => {
+        Ordering::Less => (volume, passed),
+        Ordering::Equal => {
             let next = passed + volume;
             (
                 rule.given(amount, tied, next) - rule.given(amount, tied, passed),
                 next,
             )
         }
-        Place::After => (0, passed),
+        Ordering::Greater => (0, passed),
     }
 }
 

@@ -13,7 +13,6 @@ mod line;
 mod merge;
 mod offer;
 mod pool;
-mod row;
 pub mod settling;
 mod side;
 mod sums;

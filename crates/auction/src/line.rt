@@ -2,6 +2,8 @@
 ghost use Rattle.std.specs.Prelude.{◌≡◌};
 ghost use Rattle.auction.specs.Clearing.{line};
 
+use market::capacities::Capacities;
+
 #[derive(Clone, Copy)]
 pub enum Line {
     // It carries the flow.
@@ -12,10 +14,11 @@ pub enum Line {
     Back,
 }
 
-// How a line that carries `forward` tenths from zone 1 to zone 2, and `backward` back, stands to a flow.
-pub fn line_of(forward: u32, backward: u32, flow: i64) -> Line
-    ensures { result ≡ line forward backward flow }
+// How a line of these capacities stands to a flow.
+pub fn line_of(capacities: Capacities, flow: i64) -> Line
+    ensures { result ≡ line capacities.forward capacities.backward flow }
 {
+    let (forward, backward) = (capacities.forward(), capacities.backward());
     if flow > forward as i64 {
         Line::There
     } else if flow < -(backward as i64) {

@@ -1,104 +1,85 @@
 // Two zones' blocks merged into one side, and taken apart again.
-ghost use Rattle.std.specs.Prelude.{◌≡◌, ◌+◌, ◌<◌, ◌≤◌, true, ◌∷◌, ◌++◌, map, length, take, drop, if◌then◌else◌, slice_set};
-ghost use Rattle.auction.specs.Offers.{merged, part, rank_of, same_zone, second_first};
+ghost use Rattle.std.specs.Prelude.{◌≡◌, ◌+◌, ◌≤◌, [], ◌∷◌, ◌++◌, map, length, take, drop, MatchOption};
+ghost use Rattle.auction.specs.Offers.{merged, part, rank_of, second_first};
 
 use crate::offer::Offer;
-use crate::row::BlockRow;
 use crate::side::stands_first;
-use market::zone::{Side, Zone};
+use market::block::Block;
+use market::row::BlockRow;
+use market::zone::Zone;
 
-// Whether the next block is one of zone 2, where the next of each zone are those at `i` and `j`.
-fn second_next<R: BlockRow>(side: Side, one: &[R], two: &[R], i: usize, j: usize) -> bool
-    requires { (i ≤ length one.now) × (j ≤ length two.now) }
-    ensures { result ≡ second_first (rank_of side) (map R.held (drop i one.now)) (map R.held (drop j two.now)) }
+// Whether the next block is one of zone 2.
+fn second_next<R: BlockRow>(one: &[R], two: &[R]) -> bool
+    ensures { result ≡ second_first (rank_of R.traded) (map R.held one.now) (map R.held two.now) }
 {
-    if i == one.len() {
+    let Some(first) = one.first() else {
         return true;
-    }
-    if j == two.len() {
+    };
+    let Some(second) = two.first() else {
         return false;
-    }
-    let first = one[i].block();
-    let second = two[j].block();
-    stands_first(side, &second, &first)
+    };
+    stands_first(R::side(), &second.block(), &first.block())
 }
 
-// The next offer, and where each zone then stands.
-fn next_offer<R: BlockRow>(
-    side: Side,
-    one: &[R],
-    two: &[R],
-    i: usize,
-    j: usize,
-) -> (Offer, usize, usize)
-    requires within { (i ≤ length one.now) × (j ≤ length two.now) }
-    requires more { i + j < length one.now + length two.now }
-    ensures merged { merged (rank_of side) (map R.held (drop i one.now)) (map R.held (drop j two.now)) ≡ result.0 ∷ merged (rank_of side) (map R.held (drop result.1 one.now)) (map R.held (drop result.2 two.now)) }
-    ensures within { (result.1 ≤ length one.now) × (result.2 ≤ length two.now) }
-    ensures one { result.1 + result.2 ≡ i + j + 1 }
+// The next offer, and the rows that each zone then has left.
+fn next_offer<'a, 'b, R: BlockRow>(one: &'a [R], two: &'b [R]) -> Option<(Offer, &'a [R], &'b [R])>
+    ensures { MatchOption result (merged (rank_of R.traded) (map R.held one.now) (map R.held two.now) ≡ []) (λ r. merged (rank_of R.traded) (map R.held one.now) (map R.held two.now) ≡ r.0 ∷ merged (rank_of R.traded) (map R.held r.1.now) (map R.held r.2.now)) }
 {
-    if second_next(side, one, two, i, j) {
+    if second_next(one, two) {
+        let (second, others) = two.split_first()?;
         let offer = Offer {
             zone: Zone::Two,
-            block: two[j].block(),
+            block: second.block(),
         };
-        (offer, i, j + 1)
+        Some((offer, one, others))
     } else {
+        let (first, others) = one.split_first()?;
         let offer = Offer {
             zone: Zone::One,
-            block: one[i].block(),
+            block: first.block(),
         };
-        (offer, i + 1, j)
+        Some((offer, others, two))
     }
 }
 
 // Merges the blocks of zone 1 and of zone 2 into the first places of `offers`.
-pub(crate) fn merge<R: BlockRow>(side: Side, one: &[R], two: &[R], offers: &mut [Offer])
+pub(crate) fn merge<R: BlockRow>(mut one: &[R], mut two: &[R], offers: &mut [Offer])
     requires { length one.now + length two.now ≤ length offers.old }
-    ensures { take (length one.now + length two.now) offers.new ≡ merged (rank_of side) (map R.held one.now) (map R.held two.now) }
+    ensures { take (length one.now + length two.now) offers.new ≡ merged (rank_of R.traded) (map R.held one.now) (map R.held two.now) }
 {
-    let mut i = 0;
-    let mut j = 0;
-    for k in 0..one.len() + two.len() {
-        let (offer, first, second) = next_offer(side, one, two, i, j);
-        offers[k] = offer;
-        i = first;
-        j = second;
+    for place in offers.iter_mut() {
+        let Some((offer, first, second)) = next_offer(one, two) else {
+            return;
+        };
+        *place = offer;
+        one = first;
+        two = second;
     }
 }
 
-pub(crate) fn is_in(zone: Zone, other: Zone) -> bool
-    ensures { result ≡ same_zone zone other }
+// The first block of the zone, and the offers behind it.
+fn next_of(zone: Zone, mut offers: &[Offer]) -> Option<(Block, &[Offer])>
+    ensures { MatchOption result (part zone offers.now ≡ []) (λ r. part zone offers.now ≡ r.0 ∷ part zone r.1.now) }
 {
-    match (zone, other) {
-        (Zone::One, Zone::One) => true,
-        (Zone::One, Zone::Two) => false,
-        (Zone::Two, Zone::One) => false,
-        (Zone::Two, Zone::Two) => true,
+    while let Some((first, rest)) = offers.split_first() {
+        if first.zone == zone {
+            return Some((first.block, rest));
+        }
+        offers = rest;
     }
-}
-
-// Writes the block to the row at `i` where the zones are the same, and answers the next place.
-fn put<R: BlockRow>(rows: &mut [R], i: usize, zone: Zone, offer: &Offer) -> usize
-    requires { same_zone zone offer.now.zone ≡ true → i < length rows.old }
-    ensures rows { map R.held rows.new ≡ (if same_zone zone offer.now.zone then slice_set (map R.held rows.old) i offer.now.block else map R.held rows.old) }
-    ensures next { result ≡ (if same_zone zone offer.now.zone then i + 1 else i) }
-{
-    if is_in(zone, offer.zone) {
-        rows[i] = R::of(offer.block);
-        i + 1
-    } else {
-        i
-    }
+    None
 }
 
 // Writes a zone's offers back to the first rows of its table.
-pub(crate) fn write_back<R: BlockRow>(rows: &mut [R], zone: Zone, offers: &[Offer])
+pub(crate) fn write_back<R: BlockRow>(rows: &mut [R], zone: Zone, mut offers: &[Offer])
     requires { length (part zone offers.now) ≤ length rows.old }
     ensures { map R.held rows.new ≡ part zone offers.now ++ drop (length (part zone offers.now)) (map R.held rows.old) }
 {
-    let mut i = 0;
-    for offer in offers {
-        i = put(rows, i, zone, offer);
+    for row in rows.iter_mut() {
+        let Some((block, rest)) = next_of(zone, offers) else {
+            return;
+        };
+        *row = R::of(block);
+        offers = rest;
     }
 }

@@ -5,34 +5,15 @@ ghost use Rattle.auction.specs.Offers.{comes_first, rank_of};
 
 use market::block::Block;
 use market::zone::Side;
+use std::cmp::Ordering;
 
-// Where a block stands to the marginal price of its side.
-#[derive(Clone, Copy)]
-pub enum Place {
-    Before,
-    Tied,
-    After,
-}
-
-// How a rank stands to the marginal rank.
-fn compared(rank: i32, marginal: i32) -> Place
-    ensures { result ≡ place marginal rank }
-{
-    if rank < marginal {
-        Place::Before
-    } else if marginal < rank {
-        Place::After
-    } else {
-        Place::Tied
-    }
-}
-
-pub fn place_of(side: Side, marginal: i32, price: i32) -> Place
+// How a price stands to the marginal price of its side: before it, tied with it, or after it.
+pub fn place_of(side: Side, marginal: i32, price: i32) -> Ordering
     ensures { result ≡ place (rank_of side marginal) (rank_of side price) }
 {
     match side {
-        Side::Sale => compared(price, marginal),
-        Side::Purchase => compared(marginal, price),
+        Side::Sale => price.cmp(&marginal),
+        Side::Purchase => marginal.cmp(&price),
     }
 }
 
@@ -41,8 +22,8 @@ pub fn stands_first(side: Side, block: &Block, other: &Block) -> bool
     ensures { result ≡ comes_first (rank_of side) block.now other.now }
 {
     match place_of(side, other.bid.price, block.bid.price) {
-        Place::Before => true,
-        Place::Tied => block.bid.wins_tie(&other.bid),
-        Place::After => false,
+        Ordering::Less => true,
+        Ordering::Equal => block.bid.wins_tie(&other.bid),
+        Ordering::Greater => false,
     }
 }

@@ -1,21 +1,19 @@
 // Sums over blocks: volumes, and what they are worth.
 ghost use Rattle.std.specs.Prelude.{◌≡◌, ◌≤◌, map, length, pos, ◌*ℤ◌, neg_ℤ, ◌≤ℤ◌, if◌then◌else◌};
-ghost use Rattle.auction.specs.Books.{money, surplus, total};
+ghost use Rattle.auction.specs.Books.{gain, money, surplus, total};
 ghost use Rattle.auction.specs.Offers.{part, same_zone};
-ghost use Rattle.auction.specs.Tables.{WorthWithinLimits, book, purchase_blocks, sale_blocks};
+ghost use Rattle.auction.specs.Tables.{TablesWorth, WorthWithinLimits, book_of_places};
 
-use crate::merge::is_in;
 use crate::offer::Offer;
-use crate::row::BlockRow;
-use market::purchase::Purchase;
-use market::sale::Sale;
+use market::places::{BlockPlaces, ZonePlaces};
+use market::row::BlockRow;
 use market::zone::Zone;
 
 // What is matched of the offer, if it is one of the zone.
 fn matched_in(zone: Zone, offer: &Offer) -> u32
     ensures { result ≡ (if same_zone zone offer.now.zone then offer.now.block.matched else 0) }
 {
-    if is_in(zone, offer.zone) {
+    if zone == offer.zone {
         offer.block.matched
     } else {
         0
@@ -56,19 +54,22 @@ pub(crate) fn money_of<R: BlockRow>(rows: &[R]) -> i64
     sum
 }
 
-// The worth of what is bought less the cost of what is sold, in both zones.
-pub(crate) fn surplus_of(
-    sales_one: &[Sale],
-    purchases_one: &[Purchase],
-    sales_two: &[Sale],
-    purchases_two: &[Purchase],
-) -> i64
-    requires sales { WorthWithinLimits (sale_blocks sales_one.now) × WorthWithinLimits (sale_blocks sales_two.now) }
-    requires purchases { WorthWithinLimits (purchase_blocks purchases_one.now) × WorthWithinLimits (purchase_blocks purchases_two.now) }
-    requires few { (length sales_one.now ≤ 256) × (length purchases_one.now ≤ 256) × (length sales_two.now ≤ 256) × (length purchases_two.now ≤ 256) }
-    ensures { result ≡ surplus (record { zone₁ = book sales_one.now purchases_one.now; zone₂ = book sales_two.now purchases_two.now }) }
+// The worth of what is bought less the cost of what is sold, in one zone.
+fn gain_of(places: &ZonePlaces) -> i64
+    requires { TablesWorth places.now.sales.now places.now.purchases.now }
+    ensures value { result ≡ gain (book_of_places places.now) }
+    ensures within { (neg_ℤ (pos 15360000000000) ≤ℤ result) × (result ≤ℤ pos 15360000000000) }
 {
-    let one = money_of(purchases_one) - money_of(sales_one);
-    let two = money_of(purchases_two) - money_of(sales_two);
+    money_of(places.purchases) - money_of(places.sales)
+}
+
+// The same in both zones.
+pub(crate) fn surplus_of(blocks: &BlockPlaces) -> i64
+    requires one { TablesWorth blocks.now.one.sales.now blocks.now.one.purchases.now }
+    requires two { TablesWorth blocks.now.two.sales.now blocks.now.two.purchases.now }
+    ensures { result ≡ surplus (record { zone₁ = book_of_places blocks.now.one; zone₂ = book_of_places blocks.now.two }) }
+{
+    let one = gain_of(&blocks.one);
+    let two = gain_of(&blocks.two);
     one + two
 }

@@ -1,76 +1,79 @@
 // The zones cleared as one, and a zone cleared alone.
-ghost use Rattle.std.specs.Prelude.{◌≡◌, ◌+◌, ◌≤◌, map, length};
+ghost use Rattle.std.specs.Prelude.{◌≡◌, ◌+◌, ◌≤◌, ◌++◌, drop, map, length};
 ghost use Rattle.auction.specs.Bracket.{high_end, low_end};
 ghost use Rattle.auction.specs.Clearing.{Room, cleared, together, zone_pool};
 ghost use Rattle.auction.specs.Offers.{alone, part};
-ghost use Rattle.auction.specs.Tables.{TablesSound, book, purchase_blocks, sale_blocks};
+ghost use Rattle.auction.specs.Tables.{TablesSound, book_of_places, purchase_blocks, sale_blocks};
+ghost use Rattle.market.specs.Places.{SameZonePlaces};
 
 use crate::merge::{merge, write_back};
 use crate::offer::Offer;
 use crate::pool::clear_pool;
-use crate::row::BlockRow;
-use market::purchase::Purchase;
-use market::sale::Sale;
-use market::zone::{Side, Zone};
+use market::places::{BlockPlaces, ZonePlaces};
+use market::row::BlockRow;
+use market::zone::Zone;
 use rules::sharing::SharingRule;
 
 // The rows of one zone as offers: merged with nothing.
-fn load<R: BlockRow>(side: Side, zone: Zone, rows: &[R], offers: &mut [Offer])
+fn load<R: BlockRow>(zone: Zone, rows: &[R], offers: &mut [Offer])
     requires { length offers.old ≡ length rows.now }
     ensures { offers.new ≡ alone zone (map R.held rows.now) }
 {
     match zone {
-        Zone::One => merge(side, rows, &rows[..0], offers),
-        Zone::Two => merge(side, &rows[..0], rows, offers),
+        Zone::One => merge(rows, &rows[..0], offers),
+        Zone::Two => merge(&rows[..0], rows, offers),
     }
 }
 
 // Clears the two zones as one, in the places of `sold` and `bought`, and answers the bracket.
 pub(crate) fn clear_together<S: SharingRule>(
     rule: &S,
-    sales_one: &[Sale],
-    purchases_one: &[Purchase],
-    sales_two: &[Sale],
-    purchases_two: &[Purchase],
+    blocks: &BlockPlaces,
     sold: &mut [Offer],
     bought: &mut [Offer],
 ) -> (i32, i32)
-    requires one { TablesSound sales_one.now purchases_one.now }
-    requires two { TablesSound sales_two.now purchases_two.now }
-    requires places { (length sold.old ≡ length sales_one.now + length sales_two.now) × (length bought.old ≡ length purchases_one.now + length purchases_two.now) }
-    ensures sold { sold.new ≡ (cleared (S.SharingRule.meaning rule.now) (together (book sales_one.now purchases_one.now) (book sales_two.now purchases_two.now))).sales }
-    ensures bought { bought.new ≡ (cleared (S.SharingRule.meaning rule.now) (together (book sales_one.now purchases_one.now) (book sales_two.now purchases_two.now))).purchases }
+    requires one { TablesSound blocks.now.one.sales.now blocks.now.one.purchases.now }
+    requires two { TablesSound blocks.now.two.sales.now blocks.now.two.purchases.now }
+    requires places { (length sold.old ≡ length blocks.now.one.sales.now + length blocks.now.two.sales.now) × (length bought.old ≡ length blocks.now.one.purchases.now + length blocks.now.two.purchases.now) }
+    ensures sold { sold.new ≡ (cleared (S.SharingRule.meaning rule.now) (together (book_of_places blocks.now.one) (book_of_places blocks.now.two))).sales }
+    ensures bought { bought.new ≡ (cleared (S.SharingRule.meaning rule.now) (together (book_of_places blocks.now.one) (book_of_places blocks.now.two))).purchases }
     ensures bracket { result ≡ (low_end sold.new bought.new, high_end sold.new bought.new) }
 {
-    merge(Side::Sale, sales_one, sales_two, sold);
-    merge(Side::Purchase, purchases_one, purchases_two, bought);
+    merge(blocks.one.sales, blocks.two.sales, sold);
+    merge(blocks.one.purchases, blocks.two.purchases, bought);
     clear_pool(rule, sold, bought, 0, 0)
 }
 
-// Clears a zone alone, writes its tables, and answers the bracket.
+// Clears a zone alone, in the places of `sold` and `bought`, and answers the bracket.
 pub(crate) fn clear_zone<S: SharingRule>(
     rule: &S,
     zone: Zone,
-    sales: &mut [Sale],
-    purchases: &mut [Purchase],
+    places: &ZonePlaces,
     sold: &mut [Offer],
     bought: &mut [Offer],
     brought: u32,
     taken: u32,
 ) -> (i32, i32)
-    requires tables { TablesSound sales.old purchases.old }
-    requires places { (length sold.old ≡ length sales.old) × (length bought.old ≡ length purchases.old) }
+    requires tables { TablesSound places.now.sales.now places.now.purchases.now }
+    requires places { (length sold.old ≡ length places.now.sales.now) × (length bought.old ≡ length places.now.purchases.now) }
     requires carried { (brought ≤ 30000000) × (taken ≤ 30000000) }
-    requires room { Room (zone_pool zone (book sales.old purchases.old) brought taken) }
-    ensures sales { sale_blocks sales.new ≡ part zone (cleared (S.SharingRule.meaning rule.now) (zone_pool zone (book sales.old purchases.old) brought taken)).sales }
-    ensures purchases { purchase_blocks purchases.new ≡ part zone (cleared (S.SharingRule.meaning rule.now) (zone_pool zone (book sales.old purchases.old) brought taken)).purchases }
-    ensures low { result.0 ≡ low_end (cleared (S.SharingRule.meaning rule.now) (zone_pool zone (book sales.old purchases.old) brought taken)).sales (cleared (S.SharingRule.meaning rule.now) (zone_pool zone (book sales.old purchases.old) brought taken)).purchases }
-    ensures high { result.1 ≡ high_end (cleared (S.SharingRule.meaning rule.now) (zone_pool zone (book sales.old purchases.old) brought taken)).sales (cleared (S.SharingRule.meaning rule.now) (zone_pool zone (book sales.old purchases.old) brought taken)).purchases }
+    requires room { Room (zone_pool zone (book_of_places places.now) brought taken) }
+    ensures sold { sold.new ≡ (cleared (S.SharingRule.meaning rule.now) (zone_pool zone (book_of_places places.now) brought taken)).sales }
+    ensures bought { bought.new ≡ (cleared (S.SharingRule.meaning rule.now) (zone_pool zone (book_of_places places.now) brought taken)).purchases }
+    ensures bracket { result ≡ (low_end sold.new bought.new, high_end sold.new bought.new) }
 {
-    load(Side::Sale, zone, sales, sold);
-    load(Side::Purchase, zone, purchases, bought);
-    let ends = clear_pool(rule, sold, bought, brought, taken);
-    write_back(sales, zone, sold);
-    write_back(purchases, zone, bought);
-    ends
+    load(zone, places.sales, sold);
+    load(zone, places.purchases, bought);
+    clear_pool(rule, sold, bought, brought, taken)
+}
+
+// Writes the offers of a zone back to its tables.
+pub(crate) fn write_zone(places: &mut ZonePlaces, zone: Zone, sold: &[Offer], bought: &[Offer])
+    requires { (length (part zone sold.now) ≤ length places.old.sales.now) × (length (part zone bought.now) ≤ length places.old.purchases.now) }
+    ensures lent { SameZonePlaces places.old places.new }
+    ensures sales { sale_blocks places.new.sales.now ≡ part zone sold.now ++ drop (length (part zone sold.now)) (sale_blocks places.old.sales.now) }
+    ensures purchases { purchase_blocks places.new.purchases.now ≡ part zone bought.now ++ drop (length (part zone bought.now)) (purchase_blocks places.old.purchases.now) }
+{
+    write_back(places.sales, zone, sold);
+    write_back(places.purchases, zone, bought);
 }

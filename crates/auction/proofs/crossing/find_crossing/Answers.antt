@@ -15,23 +15,23 @@ pub overflow_add-amount : goal.overflow_add-amount
 overflow_add-amount c =
     let l = left_over (behind c.args.brought lowest_price c.args.sales.now) c.loop-sale.amount c.loop-sale.sale.left c.loop-sale.sale.price (drop c.loop-sale.sale.next c.args.sales.now) c.loop-sale.invariant.sale_stands in
     let s = behind_short c.args.brought lowest_price c.args.sales.now c.requires.carried.0 c.requires.rising.volumes c.requires.rising.few in
-    let i = step_is c.least-step.result c.loop-sale.sale.left c.loop-sale.purchase.left c.least-step.ensures c.loop-sale-test.true c.if-purchase-gt0.true in
+    let i = step_is c.min-step.result c.loop-sale.sale.left c.loop-sale.purchase.left c.min-step.ensures c.loop-sale-test.true c.if-purchase-gt0.true in
     omega (arith, l, s, i)
 
 pub loop-sale-smaller : goal.loop-sale-smaller
 loop-sale-smaller c =
     let l = left_over (behind c.args.brought lowest_price c.args.sales.now) c.loop-sale.amount c.loop-sale.sale.left c.loop-sale.sale.price (drop c.loop-sale.sale.next c.args.sales.now) c.loop-sale.invariant.sale_stands in
-    let i = step_is c.least-step.result c.loop-sale.sale.left c.loop-sale.purchase.left c.least-step.ensures c.loop-sale-test.true c.if-purchase-gt0.true in
+    let i = step_is c.min-step.result c.loop-sale.sale.left c.loop-sale.purchase.left c.min-step.ensures c.loop-sale-test.true c.if-purchase-gt0.true in
     omega (arith, l, i)
 
 pub loop-sale-preserved : goal.loop-sale-preserved
 loop-sale-preserved c =
     let x = c.loop-sale.sale in
     let y = c.loop-sale.purchase in
-    let s = c.least-step.result in
+    let s = c.min-step.result in
     let f : SFits w32 x.price = search rules in
     let g : SFits w32 y.price = search rules in
-    let i = step_is s x.left y.left c.least-step.ensures c.loop-sale-test.true c.if-purchase-gt0.true in
+    let i = step_is s x.left y.left c.min-step.ensures c.loop-sale-test.true c.if-purchase-gt0.true in
     let le : x.price ≤ℤ y.price = omega (arith, ints, c.if-sale-purchase.true) in
     let a = c.filled-sale-in-loop-sale in
     let b = c.filled-purchase-in-loop-sale in

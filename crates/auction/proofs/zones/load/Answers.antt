@@ -10,7 +10,7 @@ returns-in-One g c =
     let n = length c.args.rows.now in
     let os = c.merge.new.offers in
     let l : length os ≤ n + 0 = omega (arith, c.merge.auto.offers, c.requires) in
-    sym (take_all (n + 0) os l) ∙ c.merge.ensures ∙ merged_alone (rank_of c.args.side) (map g.R.BlockRow.held c.args.rows.now) ∙ ap (λ (z : Zone). alone z (map g.R.BlockRow.held c.args.rows.now)) (sym c.in-One.is)
+    sym (take_all (n + 0) os l) ∙ c.merge.ensures ∙ merged_alone (rank_of g.R.BlockRow.traded) (map g.R.BlockRow.held c.args.rows.now) ∙ ap (λ (z : Zone). alone z (map g.R.BlockRow.held c.args.rows.now)) (sym c.in-One.is)
 
 pub returns-in-Two : goal.returns-in-Two
 returns-in-Two g c =
