@@ -10,7 +10,7 @@ ghost use Rattle.exchange.specs.declared.exchange.Answer.TheVariants as answer;
 ghost use Rattle.exchange.specs.declared.exchange.Exchange.TheVariants as exchange;
 
 use crate::exchange::{Answer, Exchange};
-use crate::results::{cleared, opened, settled, still_idle, still_open};
+use crate::results::come_to;
 use crate::state::{Cleared, Closed, Idle, Open};
 use market::account::Account;
 use market::call::Call;
@@ -38,12 +38,12 @@ pub(crate) fn apply_idle<P: PriceRule, S: SharingRule>(
     ensures step { (t : Places) → Step P.PriceRule.meaning S.SharingRule.meaning call result.1 (exchange.Idle state) (with_accounts t accounts.old) result.0 (with_accounts t accounts.new) }
 {
     match call {
-        Call::Admit { agent } => still_idle(state.admit(accounts, agent)),
+        Call::Admit { agent } => come_to(state.admit(accounts, agent)),
         Call::Begin {
             session,
             forward,
             backward,
-        } => opened(state.begin(session, forward, backward)),
+        } => come_to(state.begin(session, forward, backward)),
         Call::Enter {
             zone: _,
             side: _,
@@ -74,13 +74,13 @@ pub(crate) fn apply_open<P: PriceRule, S: SharingRule>(
     ensures step { (entries : List Entry) → Step P.PriceRule.meaning S.SharingRule.meaning call result.1 (exchange.Open state) (places sales_one.old purchases_one.old sales_two.old purchases_two.old accounts.old entries) result.0 (places sales_one.new purchases_one.new sales_two.new purchases_two.new accounts.new entries) }
 {
     match call {
-        Call::Admit { agent } => still_open(state.admit(accounts, agent)),
+        Call::Admit { agent } => come_to(state.admit(accounts, agent)),
         Call::Begin {
             session: _,
             forward: _,
             backward: _,
         } => of_another_state(Exchange::Open(state)),
-        Call::Enter { zone, side, bid } => still_open(state.enter(
+        Call::Enter { zone, side, bid } => come_to(state.enter(
             sales_one,
             purchases_one,
             sales_two,
@@ -90,7 +90,7 @@ pub(crate) fn apply_open<P: PriceRule, S: SharingRule>(
             side,
             bid,
         )),
-        Call::Withdraw { zone, side, key } => still_open(state.withdraw(
+        Call::Withdraw { zone, side, key } => come_to(state.withdraw(
             sales_one,
             purchases_one,
             sales_two,
@@ -135,7 +135,7 @@ pub(crate) fn apply_closed<P: PriceRule, S: SharingRule>(
             key: _,
         } => of_another_state(Exchange::Closed(state)),
         Call::Close => of_another_state(Exchange::Closed(state)),
-        Call::Clear => cleared(state.clear(sales_one, purchases_one, sales_two, purchases_two)),
+        Call::Clear => come_to(state.clear(sales_one, purchases_one, sales_two, purchases_two)),
         Call::Settle => of_another_state(Exchange::Closed(state)),
         Call::Annul => (Exchange::Idle(state.annul()), Answer::Accepted),
     }
@@ -173,7 +173,7 @@ pub(crate) fn apply_cleared<P: PriceRule, S: SharingRule>(
         } => of_another_state(Exchange::Cleared(state)),
         Call::Close => of_another_state(Exchange::Cleared(state)),
         Call::Clear => of_another_state(Exchange::Cleared(state)),
-        Call::Settle => settled(state.settle(
+        Call::Settle => come_to(state.settle(
             sales_one,
             purchases_one,
             sales_two,

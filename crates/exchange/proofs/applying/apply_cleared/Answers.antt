@@ -13,8 +13,8 @@ pub returns-in-Settle : goal.returns-in-Settle
 returns-in-Settle g c =
     let a = c.args in
     let k = c.settle.ensures in
-    let r = c.settled.result in
-    let w = c.settled.ensures in
+    let r = c.come_to.result in
+    let w = c.come_to.ensures in
     let before : Places = places a.sales_one.now a.purchases_one.now a.sales_two.now a.purchases_two.now a.accounts.now a.entries.now in
     let later : Places = places c.settle.new.sales_one c.settle.new.purchases_one c.settle.new.sales_two c.settle.new.purchases_two c.settle.new.accounts c.settle.new.entries in
     record {

@@ -13,8 +13,8 @@ pub returns-in-Clear : goal.returns-in-Clear
 returns-in-Clear g c =
     let a = c.args in
     let k = c.clear.ensures in
-    let r = c.cleared.result in
-    let w = c.cleared.ensures in
+    let r = c.come_to.result in
+    let w = c.come_to.ensures in
     let before : Places → Places = λ t. with_blocks t (four a.sales_one.now a.purchases_one.now a.sales_two.now a.purchases_two.now) in
     let later : Places → Places = λ t. with_blocks t (four c.clear.new.sales_one c.clear.new.purchases_one c.clear.new.sales_two c.clear.new.purchases_two) in
     record {

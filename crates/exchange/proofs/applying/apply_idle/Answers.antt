@@ -12,8 +12,8 @@ pub returns-in-Admit : goal.returns-in-Admit
 returns-in-Admit g c =
     let a = c.args in
     let k = c.admit.ensures in
-    let r = c.still_idle.result in
-    let w = c.still_idle.ensures in
+    let r = c.come_to.result in
+    let w = c.come_to.ensures in
     let before : Places → Places = λ t. with_accounts t a.accounts.now in
     let later : Places → Places = λ t. with_accounts t c.admit.new.accounts in
     record {
@@ -25,8 +25,8 @@ pub returns-in-Begin : goal.returns-in-Begin
 returns-in-Begin g c =
     let a = c.args in
     let k = c.begin.ensures in
-    let r = c.opened.result in
-    let w = c.opened.ensures in
+    let r = c.come_to-in-Begin.result in
+    let w = c.come_to-in-Begin.ensures in
     let before : Places → Places = λ t. with_accounts t a.accounts.now in
     let later : Places → Places = λ t. with_accounts t a.accounts.now in
     record {

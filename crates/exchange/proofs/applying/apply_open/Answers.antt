@@ -14,8 +14,8 @@ pub returns-in-Admit : goal.returns-in-Admit
 returns-in-Admit g c =
     let a = c.args in
     let k = c.admit.ensures in
-    let r = c.still_open.result in
-    let w = c.still_open.ensures in
+    let r = c.come_to.result in
+    let w = c.come_to.ensures in
     let before : List Entry → Places = λ es. places a.sales_one.now a.purchases_one.now a.sales_two.now a.purchases_two.now a.accounts.now es in
     let later : List Entry → Places = λ es. places a.sales_one.now a.purchases_one.now a.sales_two.now a.purchases_two.now c.admit.new.accounts es in
     record {
@@ -27,8 +27,8 @@ pub returns-in-Enter : goal.returns-in-Enter
 returns-in-Enter g c =
     let a = c.args in
     let k = c.enter.ensures in
-    let r = c.still_open-in-Enter.result in
-    let w = c.still_open-in-Enter.ensures in
+    let r = c.come_to-in-Enter.result in
+    let w = c.come_to-in-Enter.ensures in
     let before : List Entry → Places = λ es. places a.sales_one.now a.purchases_one.now a.sales_two.now a.purchases_two.now a.accounts.now es in
     let later : List Entry → Places = λ es. places c.enter.new.sales_one c.enter.new.purchases_one c.enter.new.sales_two c.enter.new.purchases_two c.enter.new.accounts es in
     record {
@@ -40,8 +40,8 @@ pub returns-in-Withdraw : goal.returns-in-Withdraw
 returns-in-Withdraw g c =
     let a = c.args in
     let k = c.withdraw.ensures in
-    let r = c.still_open-in-Withdraw.result in
-    let w = c.still_open-in-Withdraw.ensures in
+    let r = c.come_to-in-Withdraw.result in
+    let w = c.come_to-in-Withdraw.ensures in
     let before : List Entry → Places = λ es. places a.sales_one.now a.purchases_one.now a.sales_two.now a.purchases_two.now a.accounts.now es in
     let later : List Entry → Places = λ es. places c.withdraw.new.sales_one c.withdraw.new.purchases_one c.withdraw.new.sales_two c.withdraw.new.purchases_two a.accounts.now es in
     record {
