@@ -44,20 +44,7 @@ pub(crate) fn apply_idle<P: PriceRule, S: SharingRule>(
             forward,
             backward,
         } => come_to(state.begin(session, forward, backward)),
-        Call::Enter {
-            zone: _,
-            side: _,
-            bid: _,
-        } => of_another_state(Exchange::Idle(state)),
-        Call::Withdraw {
-            zone: _,
-            side: _,
-            key: _,
-        } => of_another_state(Exchange::Idle(state)),
-        Call::Close => of_another_state(Exchange::Idle(state)),
-        Call::Clear => of_another_state(Exchange::Idle(state)),
-        Call::Settle => of_another_state(Exchange::Idle(state)),
-        Call::Annul => of_another_state(Exchange::Idle(state)),
+        _ => of_another_state(Exchange::Idle(state)),
     }
 }
 
@@ -75,11 +62,6 @@ pub(crate) fn apply_open<P: PriceRule, S: SharingRule>(
 {
     match call {
         Call::Admit { agent } => come_to(state.admit(accounts, agent)),
-        Call::Begin {
-            session: _,
-            forward: _,
-            backward: _,
-        } => of_another_state(Exchange::Open(state)),
         Call::Enter { zone, side, bid } => come_to(state.enter(
             sales_one,
             purchases_one,
@@ -100,9 +82,8 @@ pub(crate) fn apply_open<P: PriceRule, S: SharingRule>(
             key,
         )),
         Call::Close => (Exchange::Closed(state.close()), Answer::Accepted),
-        Call::Clear => of_another_state(Exchange::Open(state)),
-        Call::Settle => of_another_state(Exchange::Open(state)),
         Call::Annul => (Exchange::Idle(state.annul()), Answer::Accepted),
+        _ => of_another_state(Exchange::Open(state)),
     }
 }
 
@@ -118,26 +99,9 @@ pub(crate) fn apply_closed<P: PriceRule, S: SharingRule>(
     ensures step { (t : Places) → Step P.PriceRule.meaning S.SharingRule.meaning call result.1 (exchange.Closed state) (with_blocks t (four sales_one.old purchases_one.old sales_two.old purchases_two.old)) result.0 (with_blocks t (four sales_one.new purchases_one.new sales_two.new purchases_two.new)) }
 {
     match call {
-        Call::Admit { agent: _ } => of_another_state(Exchange::Closed(state)),
-        Call::Begin {
-            session: _,
-            forward: _,
-            backward: _,
-        } => of_another_state(Exchange::Closed(state)),
-        Call::Enter {
-            zone: _,
-            side: _,
-            bid: _,
-        } => of_another_state(Exchange::Closed(state)),
-        Call::Withdraw {
-            zone: _,
-            side: _,
-            key: _,
-        } => of_another_state(Exchange::Closed(state)),
-        Call::Close => of_another_state(Exchange::Closed(state)),
         Call::Clear => come_to(state.clear(sales_one, purchases_one, sales_two, purchases_two)),
-        Call::Settle => of_another_state(Exchange::Closed(state)),
         Call::Annul => (Exchange::Idle(state.annul()), Answer::Accepted),
+        _ => of_another_state(Exchange::Closed(state)),
     }
 }
 
@@ -155,24 +119,6 @@ pub(crate) fn apply_cleared<P: PriceRule, S: SharingRule>(
     ensures step { Step P.PriceRule.meaning S.SharingRule.meaning call result.1 (exchange.Cleared state) (places sales_one.old purchases_one.old sales_two.old purchases_two.old accounts.old entries.old) result.0 (places sales_one.new purchases_one.new sales_two.new purchases_two.new accounts.new entries.new) }
 {
     match call {
-        Call::Admit { agent: _ } => of_another_state(Exchange::Cleared(state)),
-        Call::Begin {
-            session: _,
-            forward: _,
-            backward: _,
-        } => of_another_state(Exchange::Cleared(state)),
-        Call::Enter {
-            zone: _,
-            side: _,
-            bid: _,
-        } => of_another_state(Exchange::Cleared(state)),
-        Call::Withdraw {
-            zone: _,
-            side: _,
-            key: _,
-        } => of_another_state(Exchange::Cleared(state)),
-        Call::Close => of_another_state(Exchange::Cleared(state)),
-        Call::Clear => of_another_state(Exchange::Cleared(state)),
         Call::Settle => come_to(state.settle(
             sales_one,
             purchases_one,
@@ -182,5 +128,6 @@ pub(crate) fn apply_cleared<P: PriceRule, S: SharingRule>(
             entries,
         )),
         Call::Annul => (Exchange::Idle(state.annul()), Answer::Accepted),
+        _ => of_another_state(Exchange::Cleared(state)),
     }
 }
