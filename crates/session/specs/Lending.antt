@@ -1,9 +1,11 @@
 -- What is lent to a call, as lists. To believe: what a table holds is what its reference points to, and a look at a table shows it; two
 -- such values lend the same places if each of their references is the same.
-use Rattle.std.specs.Prelude.{◌≡◌}
+use Rattle.std.specs.Prelude.{◌≡◌, List}
 use Rattle.market.specs.Places.{SamePlaces}
+use Rattle.market.specs.declared.account.Account.{Account}
 use Rattle.market.specs.declared.places.BlockPlaces.{BlockPlaces}
 use Rattle.market.specs.declared.places.ZonePlaces.{ZonePlaces}
+use Rattle.settlement.specs.declared.entry.Entry.{Entry}
 use Rattle.table.specs.declared.table.Table.{Table}
 use Rattle.table.specs.declared.view.View.{View}
 use Rattle.session.specs.Outcomes.{Four, four}
@@ -30,8 +32,11 @@ abbrev pub four_held : BlockPlaces → Four
 four_held t = four t.one.sales.now t.one.purchases.now t.two.sales.now t.two.purchases.now
 
 -- everything that is lent
+abbrev pub places_held : BlockPlaces → List Account → List Entry → Places
+places_held t xs es = places t.one.sales.now t.one.purchases.now t.two.sales.now t.two.purchases.now xs es
+
 abbrev pub held_in : Lent → Places
-held_in l = places l.blocks.one.sales.now l.blocks.one.purchases.now l.blocks.two.sales.now l.blocks.two.purchases.now l.accounts.now l.entries.now
+held_in l = places_held l.blocks l.accounts.now l.entries.now
 
 abbrev pub SameLent : Lent → Lent → Type 0
 SameLent a b = SamePlaces a.blocks b.blocks × (b.accounts.ghost_name ≡ a.accounts.ghost_name) × (b.entries.ghost_name ≡ a.entries.ghost_name)
