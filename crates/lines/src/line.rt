@@ -19,7 +19,10 @@ pub fn answer_line<P: PriceRule, S: SharingRule>(
     ensures answers { AnswersLine P.PriceRule.meaning S.SharingRule.meaning (option_map (λ x. x.now) line.entry) exchange (held_in lent.old) result.0 result.1 (held_in lent.new) }
     ensures lent { SameLent lent.old lent.new }
 {
-    match line.and_then(read_call) {
+    let Some(bytes) = line else {
+        return (exchange, Answer::Refused(Refusal::NoForm));
+    };
+    match read_call(bytes) {
         Some(call) => exchange.apply(lent, call),
         None => (exchange, Answer::Refused(Refusal::NoForm)),
     }
