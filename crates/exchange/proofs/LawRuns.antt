@@ -1,5 +1,5 @@
 -- A run, one call longer; a run cut at the shorter of its two lists; and what a run leads to.
-use Rattle.std.proofs.Common.{◌≡◌, ℕ, zero, suc, ◌+◌, ◌<◌, min, List, [], ◌∷◌, ◌++◌, length, get_or, take, set, ℤ, sym, refl, ◌∙◌, subst₂, arith}
+use Rattle.std.proofs.Common.{◌≡◌, ℕ, zero, suc, ◌+◌, ◌<◌, min, List, [], ◌∷◌, ◌++◌, length, get_or, take, set, ℤ, sym, refl, ap, ◌∙◌, subst₂, arith}
 use Rattle.std.proofs.lemmas.List.{length-take-le, take_more, take_more_set}
 use Rattle.market.specs.declared.call.Call.{Call}
 use Rattle.rules.specs.Shares.{Shares}
@@ -47,12 +47,12 @@ module _ {P S : Type 0} (pricing : P → ℤ → ℤ → ℤ) (sharing : S → �
   throughout_push h x t (b ∷ cs) (q ∷ as') z v c a y u l r s d = (r.0, (r.1.0, r.1.1, r.1.2, throughout_push (event b q ∷ h) r.1.0 r.1.1 cs as' z v c a y u (omega arith) r.1.3 s d))
 
   -- one call more, whose answer is written in its place
-  pub throughout_more : (h : History) (x : Exchange P S) (t : Places) (i : ℕ) (cs : List Call) (as' : List Answer) (z : Exchange P S) (v : Places) (d : Call) (a : Answer) (y : Exchange P S) (u : Places) → i < length cs → i < length as' →
-      Throughout pricing sharing e h x t (take i cs) (take i as') z v → Step pricing sharing (get_or cs i d) a z v y u → Does pricing sharing z v (get_or cs i d) y a u →
+  pub throughout_more : (h : History) (x : Exchange P S) (t : Places) (i : ℕ) (cs : List Call) (as' : List Answer) (z : Exchange P S) (v : Places) (d c : Call) (a : Answer) (y : Exchange P S) (u : Places) → i < length cs → i < length as' → c ≡ get_or cs i d →
+      Throughout pricing sharing e h x t (take i cs) (take i as') z v → Step pricing sharing c a z v y u → Does pricing sharing z v c y a u →
       Throughout pricing sharing e h x t (take (i + 1) cs) (take (i + 1) (set as' i a)) y u
-  throughout_more h x t i cs as' z v d a y u l m r s k =
-      subst₂ (λ (ds : List Call) (bs : List Answer). Throughout pricing sharing e h x t ds bs y u) (sym (take_more cs i d l)) (sym (take_more_set as' i a m))
-      (throughout_push h x t (take i cs) (take i as') z v (get_or cs i d) a y u (length-take-le i cs (omega arith) ∙ sym (length-take-le i as' (omega arith))) r s k)
+  throughout_more h x t i cs as' z v d c a y u l m q r s k =
+      subst₂ (λ (ds : List Call) (bs : List Answer). Throughout pricing sharing e h x t ds bs y u) (ap (λ (w : Call). take i cs ++ w ∷ []) q ∙ sym (take_more cs i d l)) (sym (take_more_set as' i a m))
+      (throughout_push h x t (take i cs) (take i as') z v c a y u (length-take-le i cs (omega arith) ∙ sym (length-take-le i as' (omega arith))) r s k)
 
   -- as far as both lists go
   pub throughout_all : (h : History) (x : Exchange P S) (t : Places) (n : ℕ) (cs : List Call) (as' : List Answer) (z : Exchange P S) (v : Places) → n ≡ min (length cs) (length as') →

@@ -1,19 +1,16 @@
 // An exchange in any of its states, its answers, and any call to it.
-ghost use Rattle.session.specs.Tables.{places};
+ghost use Rattle.session.specs.Lending.{SameLent, held_in};
 ghost use Rattle.exchange.specs.Applying.{Does};
 ghost use Rattle.exchange.specs.Runs.{Step};
 
 use crate::applying::{apply_cleared, apply_closed, apply_idle, apply_open};
 use crate::state::{Cleared, Closed, Idle, Open};
-use market::account::Account;
 use market::call::Call;
-use market::purchase::Purchase;
 use market::refusal::Refusal;
-use market::sale::Sale;
 use rules::price::PriceRule;
 use rules::sharing::SharingRule;
+use session::lent::Lent;
 use session::report::Report;
-use settlement::entry::Entry;
 use settlement::settle::Settled;
 
 pub enum Exchange<P, S> {
@@ -33,50 +30,16 @@ pub enum Answer {
 
 impl<P: PriceRule, S: SharingRule> Exchange<P, S> {
     // Makes a call: the exchange after it, and its answer.
-    pub fn apply(
-        self,
-        sales_one: &mut [Sale],
-        purchases_one: &mut [Purchase],
-        sales_two: &mut [Sale],
-        purchases_two: &mut [Purchase],
-        accounts: &mut [Account],
-        entries: &mut [Entry],
-        call: Call,
-    ) -> (Exchange<P, S>, Answer)
-        ensures does { Does P.PriceRule.meaning S.SharingRule.meaning self (places sales_one.old purchases_one.old sales_two.old purchases_two.old accounts.old entries.old) call result.0 result.1 (places sales_one.new purchases_one.new sales_two.new purchases_two.new accounts.new entries.new) }
-        ensures step { Step P.PriceRule.meaning S.SharingRule.meaning call result.1 self (places sales_one.old purchases_one.old sales_two.old purchases_two.old accounts.old entries.old) result.0 (places sales_one.new purchases_one.new sales_two.new purchases_two.new accounts.new entries.new) }
+    pub fn apply(self, lent: &mut Lent<'_>, call: Call) -> (Exchange<P, S>, Answer)
+        ensures does { Does P.PriceRule.meaning S.SharingRule.meaning self (held_in lent.old) call result.0 result.1 (held_in lent.new) }
+        ensures step { Step P.PriceRule.meaning S.SharingRule.meaning call result.1 self (held_in lent.old) result.0 (held_in lent.new) }
+        ensures lent { SameLent lent.old lent.new }
     {
         match self {
-            Exchange::Idle(state) => apply_idle(state, accounts, call),
-            Exchange::Open(state) => apply_open(
-                state,
-                sales_one,
-                purchases_one,
-                sales_two,
-                purchases_two,
-                accounts,
-                call,
-            ),
-            Exchange::Closed(state) => apply_closed(
-                state,
-                sales_one,
-                purchases_one,
-                sales_two,
-                purchases_two,
-                call,
-            ),
-            Exchange::Cleared(state) => {
-                apply_cleared(
-                    state,
-                    sales_one,
-                    purchases_one,
-                    sales_two,
-                    purchases_two,
-                    accounts,
-                    entries,
-                    call,
-                )
-            }
+            Exchange::Idle(state) => apply_idle(state, lent, call),
+            Exchange::Open(state) => apply_open(state, lent, call),
+            Exchange::Closed(state) => apply_closed(state, lent, call),
+            Exchange::Cleared(state) => apply_cleared(state, lent, call),
         }
     }
 }

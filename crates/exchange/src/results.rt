@@ -1,73 +1,89 @@
 // The result of a state's own call, as an exchange and its answer.
+ghost use Rattle.std.specs.Prelude.{◌≡◌};
 ghost use Rattle.exchange.specs.Applying.{ComesTo, accepting, reporting, settled_idle, settling};
-ghost use Rattle.exchange.specs.declared.exchange.Exchange.TheVariants as exchange;
+ghost use Rattle.exchange.specs.declared.exchange.Answer as answer;
+ghost use Rattle.exchange.specs.declared.exchange.Exchange as exchange;
+ghost use Rattle.exchange.specs.declared.exchange.Exchange.TheVariants as exchange-in;
 
 use crate::exchange::{Answer, Exchange};
 use crate::state::{Cleared, Closed, Idle, Open, Refused};
 use settlement::settle::Settled;
 
-// Of a call that leaves an idle exchange idle.
-pub(crate) fn still_idle<P, S>(
-    outcome: Result<Idle<P, S>, Refused<Idle<P, S>>>,
-) -> (Exchange<P, S>, Answer)
-    ensures { ComesTo exchange.Idle exchange.Idle accepting outcome result.0 result.1 }
-{
-    match outcome {
-        Ok(state) => (Exchange::Idle(state), Answer::Accepted),
-        Err(Refused { state, why }) => (Exchange::Idle(state), Answer::Refused(why)),
+// What an accepted call hands on: a state, alone or with what is reported of the call.
+pub(crate) trait Onward<P, S> {
+    // The exchange in that state, and the answer.
+    ghost onward: { Self → exchange.Exchange P S };
+
+    ghost told: { Self → answer.Answer };
+
+    fn onward(self) -> (Exchange<P, S>, Answer)
+        ensures state { result.0 ≡ onward self }
+        ensures answer { result.1 ≡ told self };
+}
+
+impl<P, S> Onward<P, S> for Idle<P, S> {
+    ghost onward = { exchange-in.Idle };
+
+    ghost told = { accepting };
+
+    fn onward(self) -> (Exchange<P, S>, Answer) {
+        (Exchange::Idle(self), Answer::Accepted)
     }
 }
 
-// Of a call that opens an idle exchange.
-pub(crate) fn opened<P, S>(
-    outcome: Result<Open<P, S>, Refused<Idle<P, S>>>,
-) -> (Exchange<P, S>, Answer)
-    ensures { ComesTo exchange.Open exchange.Idle accepting outcome result.0 result.1 }
-{
-    match outcome {
-        Ok(state) => (Exchange::Open(state), Answer::Accepted),
-        Err(Refused { state, why }) => (Exchange::Idle(state), Answer::Refused(why)),
+impl<P, S> Onward<P, S> for Open<P, S> {
+    ghost onward = { exchange-in.Open };
+
+    ghost told = { accepting };
+
+    fn onward(self) -> (Exchange<P, S>, Answer) {
+        (Exchange::Open(self), Answer::Accepted)
     }
 }
 
-// Of a call that leaves an open exchange open.
-pub(crate) fn still_open<P, S>(
-    outcome: Result<Open<P, S>, Refused<Open<P, S>>>,
-) -> (Exchange<P, S>, Answer)
-    ensures { ComesTo exchange.Open exchange.Open accepting outcome result.0 result.1 }
-{
-    match outcome {
-        Ok(state) => (Exchange::Open(state), Answer::Accepted),
-        Err(Refused { state, why }) => (Exchange::Open(state), Answer::Refused(why)),
+impl<P, S> Onward<P, S> for Closed<P, S> {
+    ghost onward = { exchange-in.Closed };
+
+    ghost told = { accepting };
+
+    fn onward(self) -> (Exchange<P, S>, Answer) {
+        (Exchange::Closed(self), Answer::Accepted)
     }
 }
 
-// Of a clearing.
-pub(crate) fn cleared<P, S>(
-    outcome: Result<Cleared<P, S>, Refused<Closed<P, S>>>,
+impl<P, S> Onward<P, S> for Cleared<P, S> {
+    ghost onward = { exchange-in.Cleared };
+
+    ghost told = { reporting };
+
+    fn onward(self) -> (Exchange<P, S>, Answer) {
+        let report = self.report();
+        (Exchange::Cleared(self), Answer::Cleared(report))
+    }
+}
+
+impl<P, S> Onward<P, S> for (Idle<P, S>, Settled) {
+    ghost onward = { settled_idle };
+
+    ghost told = { settling };
+
+    fn onward(self) -> (Exchange<P, S>, Answer) {
+        let (state, amounts) = self;
+        (Exchange::Idle(state), Answer::Settled(amounts))
+    }
+}
+
+// What a call comes to: what it hands on, or the state as it was, with the refusal for an answer.
+pub(crate) fn come_to<P, S, U: Onward<P, S>, V: Onward<P, S>>(
+    outcome: Result<U, Refused<V>>,
 ) -> (Exchange<P, S>, Answer)
-    ensures { ComesTo exchange.Cleared exchange.Closed reporting outcome result.0 result.1 }
+    ensures { ComesTo U.onward V.onward U.told outcome result.0 result.1 }
 {
     match outcome {
-        Ok(state) => {
-            let report = state.report();
-            (Exchange::Cleared(state), Answer::Cleared(report))
+        Ok(next) => next.onward(),
+        Err(Refused { state, why }) => {
+            let (same, _) = state.onward();
+            (same, Answer::Refused(why))
         }
-        Err(Refused { state, why }) => (Exchange::Closed(state), Answer::Refused(why)),
-    }
-}
-
-// Of a settlement.
-pub(crate) fn settled<P, S>(
-    outcome: Result<(Idle<P, S>, Settled), Refused<Cleared<P, S>>>,
-) -> (Exchange<P, S>, Answer)
-    ensures { ComesTo settled_idle exchange.Cleared settling outcome result.0 result.1 }
-{
-    match outcome {
-        Ok(done) => {
-            let (state, amounts) = done;
-            (Exchange::Idle(state), Answer::Settled(amounts))
-        }
-        Err(Refused { state, why }) => (Exchange::Cleared(state), Answer::Refused(why)),
     }
 }

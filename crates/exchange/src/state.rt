@@ -1,12 +1,14 @@
 // The four states of an exchange. None can be copied or let go: a call takes the state and hands back the next one, or the same one
 // with a refusal. The tables and the entry list are lent at each call.
 ghost use Rattle.std.specs.Prelude.{◌≡◌, List};
+ghost use Rattle.market.specs.Places.{SamePlaces};
 ghost use Rattle.market.specs.Refusals.{FirstCause};
 ghost use Rattle.session.specs.Causes.{admit_causes, begin_causes, clear_causes, enter_causes, settle_causes, withdraw_causes};
-ghost use Rattle.session.specs.Outcomes.{four, held_for, outcome_at};
+ghost use Rattle.session.specs.Lending.{blocks_held, four_held, places_held};
+ghost use Rattle.session.specs.Outcomes.{held_for, outcome_at};
 ghost use Rattle.exchange.specs.Calls.{Begins, ClearsFrom, Enters, IdleAdmits, OpenAdmits, SettlesFrom, Withdraws, annulled_cleared, annulled_closed, annulled_open, closes, new_idle};
 ghost use Rattle.exchange.specs.Calls.{Moves, reason};
-ghost use Rattle.session.specs.Tables.{Places, blocks_of, lent, places, zone_at};
+ghost use Rattle.session.specs.Tables.{Places, lent, zone_at};
 ghost use Rattle.settlement.specs.declared.entry.Entry.{Entry};
 ghost use Rattle.market.specs.declared.call.Call.TheVariants.{Admit, Begin, Enter, Withdraw, Close, Clear, Settle, Annul};
 ghost use Rattle.exchange.specs.Applying.{accepting, reporting, settled_idle, settling, with_accounts, with_blocks};
@@ -18,9 +20,8 @@ use auction::engine::Engine;
 use market::account::Account;
 use market::block::{Bid, BlockKey};
 use market::capacities::Capacities;
-use market::purchase::Purchase;
+use market::places::BlockPlaces;
 use market::refusal::Refusal;
-use market::sale::Sale;
 use market::zone::Side;
 use rules::price::PriceRule;
 use rules::sharing::SharingRule;
@@ -30,6 +31,7 @@ use session::report::Report;
 use session::session::Session;
 use settlement::entry::Entry;
 use settlement::settle::Settled;
+use table::view::View;
 
 mod wind_up;
 
@@ -88,7 +90,7 @@ impl<P, S> Idle<P, S> {
 impl<P: PriceRule, S: SharingRule> Idle<P, S> {
     // Adds the agent's account.
     pub fn admit(
-        self,
+        mut self,
         accounts: &mut [Account],
         agent: u32,
     ) -> Result<Idle<P, S>, Refused<Idle<P, S>>>
@@ -98,8 +100,8 @@ impl<P: PriceRule, S: SharingRule> Idle<P, S> {
     {
         match self.ledger.admit(accounts, agent) {
             Ok(ledger) => {
-                let Idle { engine, ledger: _ } = self;
-                Ok(Idle { engine, ledger })
+                self.ledger = ledger;
+                Ok(self)
             }
             Err(why) => Err(Refused { state: self, why }),
         }
@@ -135,7 +137,7 @@ impl<P: PriceRule, S: SharingRule> Idle<P, S> {
 impl<P: PriceRule, S: SharingRule> Open<P, S> {
     // Adds the agent's account.
     pub fn admit(
-        self,
+        mut self,
         accounts: &mut [Account],
         agent: u32,
     ) -> Result<Open<P, S>, Refused<Open<P, S>>>
@@ -144,17 +146,9 @@ impl<P: PriceRule, S: SharingRule> Open<P, S> {
         ensures step { (t : Places) → ResultStep P.PriceRule.meaning S.SharingRule.meaning (Admit agent) exchange.Open exchange.Open accepting (exchange.Open self) (with_accounts t accounts.old) result (with_accounts t accounts.new) }
     {
         match self.ledger.admit(accounts, agent) {
-            Ok(admitted) => {
-                let Open {
-                    engine,
-                    ledger: _,
-                    session,
-                } = self;
-                Ok(Open {
-                    engine,
-                    ledger: admitted,
-                    session,
-                })
+            Ok(ledger) => {
+                self.ledger = ledger;
+                Ok(self)
             }
             Err(why) => Err(Refused { state: self, why }),
         }
@@ -162,43 +156,26 @@ impl<P: PriceRule, S: SharingRule> Open<P, S> {
 
     // Enters a bid in its zone, on its side, at its place in the precedence.
     pub fn enter(
-        self,
-        sales_one: &mut [Sale],
-        purchases_one: &mut [Purchase],
-        sales_two: &mut [Sale],
-        purchases_two: &mut [Purchase],
-        accounts: &mut [Account],
+        mut self,
+        blocks: &mut BlockPlaces<'_>,
+        accounts: &[Account],
         zone: u32,
         side: Side,
         bid: Bid,
     ) -> Result<Open<P, S>, Refused<Open<P, S>>>
-        ensures why { FirstCause (enter_causes (zone_at zone) side bid (blocks_of self.session sales_one.old purchases_one.old sales_two.old purchases_two.old) (lent accounts.old self.ledger.accounts)) (reason result) }
-        ensures after { Enters zone side bid self (four sales_one.old purchases_one.old sales_two.old purchases_two.old) result (four sales_one.new purchases_one.new sales_two.new purchases_two.new) }
-        ensures accounts { accounts.new ≡ accounts.old }
-        ensures step { (entries : List Entry) → ResultStep P.PriceRule.meaning S.SharingRule.meaning (Enter zone side bid) exchange.Open exchange.Open accepting (exchange.Open self) (places sales_one.old purchases_one.old sales_two.old purchases_two.old accounts.old entries) result (places sales_one.new purchases_one.new sales_two.new purchases_two.new accounts.new entries) }
+        ensures why { FirstCause (enter_causes (zone_at zone) side bid (blocks_held self.session blocks.old) (lent accounts.now self.ledger.accounts)) (reason result) }
+        ensures after { Enters zone side bid self (four_held blocks.old) result (four_held blocks.new) }
+        ensures lent { SamePlaces blocks.old blocks.new }
+        ensures step { (entries : List Entry) → ResultStep P.PriceRule.meaning S.SharingRule.meaning (Enter zone side bid) exchange.Open exchange.Open accepting (exchange.Open self) (places_held blocks.old accounts.now entries) result (places_held blocks.new accounts.now entries) }
     {
-        match self.session.enter(
-            sales_one,
-            purchases_one,
-            sales_two,
-            purchases_two,
-            accounts,
-            self.ledger.accounts,
-            zone,
-            side,
-            bid,
-        ) {
+        let counted = View {
+            rows: accounts,
+            count: self.ledger.accounts,
+        };
+        match self.session.enter(blocks, counted, zone, side, bid) {
             Ok(session) => {
-                let Open {
-                    engine,
-                    ledger,
-                    session: _,
-                } = self;
-                Ok(Open {
-                    engine,
-                    ledger,
-                    session,
-                })
+                self.session = session;
+                Ok(self)
             }
             Err(why) => Err(Refused { state: self, why }),
         }
@@ -206,39 +183,21 @@ impl<P: PriceRule, S: SharingRule> Open<P, S> {
 
     // Takes out the block with the key, in its zone and on its side.
     pub fn withdraw(
-        self,
-        sales_one: &mut [Sale],
-        purchases_one: &mut [Purchase],
-        sales_two: &mut [Sale],
-        purchases_two: &mut [Purchase],
+        mut self,
+        blocks: &mut BlockPlaces<'_>,
         zone: u32,
         side: Side,
         key: BlockKey,
     ) -> Result<Open<P, S>, Refused<Open<P, S>>>
-        ensures why { FirstCause (withdraw_causes (zone_at zone) side key (blocks_of self.session sales_one.old purchases_one.old sales_two.old purchases_two.old)) (reason result) }
-        ensures after { Withdraws zone side key self (four sales_one.old purchases_one.old sales_two.old purchases_two.old) result (four sales_one.new purchases_one.new sales_two.new purchases_two.new) }
-        ensures step { (t : Places) → ResultStep P.PriceRule.meaning S.SharingRule.meaning (Withdraw zone side key) exchange.Open exchange.Open accepting (exchange.Open self) (with_blocks t (four sales_one.old purchases_one.old sales_two.old purchases_two.old)) result (with_blocks t (four sales_one.new purchases_one.new sales_two.new purchases_two.new)) }
+        ensures why { FirstCause (withdraw_causes (zone_at zone) side key (blocks_held self.session blocks.old)) (reason result) }
+        ensures after { Withdraws zone side key self (four_held blocks.old) result (four_held blocks.new) }
+        ensures lent { SamePlaces blocks.old blocks.new }
+        ensures step { (t : Places) → ResultStep P.PriceRule.meaning S.SharingRule.meaning (Withdraw zone side key) exchange.Open exchange.Open accepting (exchange.Open self) (with_blocks t (four_held blocks.old)) result (with_blocks t (four_held blocks.new)) }
     {
-        match self.session.withdraw(
-            sales_one,
-            purchases_one,
-            sales_two,
-            purchases_two,
-            zone,
-            side,
-            key,
-        ) {
+        match self.session.withdraw(blocks, zone, side, key) {
             Ok(session) => {
-                let Open {
-                    engine,
-                    ledger,
-                    session: _,
-                } = self;
-                Ok(Open {
-                    engine,
-                    ledger,
-                    session,
-                })
+                self.session = session;
+                Ok(self)
             }
             Err(why) => Err(Refused { state: self, why }),
         }
@@ -308,25 +267,13 @@ impl<P: PriceRule, S: SharingRule> Cleared<P, S> {
 
 impl<P: PriceRule, S: SharingRule> Closed<P, S> {
     // Clears the standing blocks: writes what is matched of each, and finds prices, flow and surplus.
-    pub fn clear(
-        self,
-        sales_one: &mut [Sale],
-        purchases_one: &mut [Purchase],
-        sales_two: &mut [Sale],
-        purchases_two: &mut [Purchase],
-    ) -> Result<Cleared<P, S>, Refused<Closed<P, S>>>
-        ensures why { FirstCause (clear_causes (blocks_of self.session sales_one.old purchases_one.old sales_two.old purchases_two.old)) (reason result) }
-        ensures after { ClearsFrom (outcome_at (S.SharingRule.meaning self.engine.sharing_rule) (P.PriceRule.meaning self.engine.price_rule) self.session (four sales_one.old purchases_one.old sales_two.old purchases_two.old)) self (four sales_one.old purchases_one.old sales_two.old purchases_two.old) result (four sales_one.new purchases_one.new sales_two.new purchases_two.new) }
-        ensures step { (t : Places) → ResultStep P.PriceRule.meaning S.SharingRule.meaning Clear exchange.Cleared exchange.Closed reporting (exchange.Closed self) (with_blocks t (four sales_one.old purchases_one.old sales_two.old purchases_two.old)) result (with_blocks t (four sales_one.new purchases_one.new sales_two.new purchases_two.new)) }
+    pub fn clear(self, blocks: &mut BlockPlaces<'_>) -> Result<Cleared<P, S>, Refused<Closed<P, S>>>
+        ensures why { FirstCause (clear_causes (blocks_held self.session blocks.old)) (reason result) }
+        ensures after { ClearsFrom (outcome_at (S.SharingRule.meaning self.engine.sharing_rule) (P.PriceRule.meaning self.engine.price_rule) self.session (four_held blocks.old)) self (four_held blocks.old) result (four_held blocks.new) }
+        ensures lent { SamePlaces blocks.old blocks.new }
+        ensures step { (t : Places) → ResultStep P.PriceRule.meaning S.SharingRule.meaning Clear exchange.Cleared exchange.Closed reporting (exchange.Closed self) (with_blocks t (four_held blocks.old)) result (with_blocks t (four_held blocks.new)) }
     {
-        match clear_session(
-            &self.engine,
-            self.session,
-            sales_one,
-            purchases_one,
-            sales_two,
-            purchases_two,
-        ) {
+        match clear_session(&self.engine, self.session, blocks) {
             Ok(report) => {
                 let Closed {
                     engine,
@@ -358,30 +305,20 @@ impl<P: PriceRule, S: SharingRule> Cleared<P, S> {
     // Writes the entries of the matched blocks, posts them to the accounts, and ends the session.
     pub fn settle(
         self,
-        sales_one: &mut [Sale],
-        purchases_one: &mut [Purchase],
-        sales_two: &mut [Sale],
-        purchases_two: &mut [Purchase],
+        blocks: &BlockPlaces<'_>,
         accounts: &mut [Account],
         entries: &mut [Entry],
     ) -> Result<(Idle<P, S>, Settled), Refused<Cleared<P, S>>>
-        ensures why { FirstCause (settle_causes (held_for self.session self.report (four sales_one.old purchases_one.old sales_two.old purchases_two.old)) (blocks_of self.session sales_one.old purchases_one.old sales_two.old purchases_two.old) (lent accounts.old self.ledger.accounts) entries.old self.ledger.income self.ledger.residue) (reason result) }
-        ensures after { SettlesFrom (held_for self.session self.report (four sales_one.old purchases_one.old sales_two.old purchases_two.old)) self accounts.old entries.old result accounts.new entries.new }
-        ensures sales_one { sales_one.new ≡ sales_one.old }
-        ensures purchases_one { purchases_one.new ≡ purchases_one.old }
-        ensures sales_two { sales_two.new ≡ sales_two.old }
-        ensures purchases_two { purchases_two.new ≡ purchases_two.old }
-        ensures step { ResultStep P.PriceRule.meaning S.SharingRule.meaning Settle settled_idle exchange.Cleared settling (exchange.Cleared self) (places sales_one.old purchases_one.old sales_two.old purchases_two.old accounts.old entries.old) result (places sales_one.new purchases_one.new sales_two.new purchases_two.new accounts.new entries.new) }
+        ensures why { FirstCause (settle_causes (held_for self.session self.report (four_held blocks.now)) (blocks_held self.session blocks.now) (lent accounts.old self.ledger.accounts) entries.old self.ledger.income self.ledger.residue) (reason result) }
+        ensures after { SettlesFrom (held_for self.session self.report (four_held blocks.now)) self accounts.old entries.old result accounts.new entries.new }
+        ensures step { ResultStep P.PriceRule.meaning S.SharingRule.meaning Settle settled_idle exchange.Cleared settling (exchange.Cleared self) (places_held blocks.now accounts.old entries.old) result (places_held blocks.now accounts.new entries.new) }
     {
         match settle_session(
             &self.engine,
             self.session,
             self.report,
             self.ledger,
-            sales_one,
-            purchases_one,
-            sales_two,
-            purchases_two,
+            blocks,
             accounts,
             entries,
         ) {

@@ -1,10 +1,11 @@
 // An answer as it is printed, each line with its newline.
 ghost use Rattle.lines.specs.Answers.{answer_text, entry_lines};
-ghost use Rattle.std.specs.Prelude.{◌≡◌, take, Some};
+ghost use Rattle.std.specs.Prelude.{Some};
 
 use exchange::exchange::Answer;
 use settlement::entry::Entry;
 use std::fmt;
+use table::view::View;
 
 // Entries, one on each line.
 #[derive(Clone, Copy)]
@@ -25,17 +26,6 @@ impl<'a> fmt::Display for EntryLines<'a> {
     }
 }
 
-// The first entries of a list.
-fn first_entries(entries: &[Entry], count: usize) -> &[Entry]
-    ensures { result.now ≡ take count entries.now }
-{
-    if count < entries.len() {
-        &entries[0..count]
-    } else {
-        entries
-    }
-}
-
 // An answer, and the entry list that was lent to its call.
 #[derive(Clone, Copy)]
 pub struct Printed<'a> {
@@ -51,8 +41,12 @@ impl<'a> fmt::Display for Printed<'a> {
             Answer::Accepted => writeln!(f, "(ok)"),
             Answer::Cleared(report) => writeln!(f, "{report}"),
             Answer::Settled(settled) => {
+                let written = View {
+                    rows: self.entries,
+                    count: settled.entries,
+                };
                 let lines = EntryLines {
-                    entries: first_entries(self.entries, settled.entries),
+                    entries: written.counted(),
                 };
                 writeln!(f, "{lines}{settled}")
             }

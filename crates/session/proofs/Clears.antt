@@ -8,9 +8,8 @@ use Rattle.auction.specs.Clearing.{Outcome}
 use Rattle.auction.specs.Tables.{book, purchase_blocks, sale_blocks}
 use Rattle.market.specs.declared.purchase.Purchase.{Purchase}
 use Rattle.market.specs.declared.sale.Sale.{Sale}
-use Rattle.session.specs.Outcomes.{Four, Reports, ReportsAndWrites, four, outcome_at, scheduled}
+use Rattle.session.specs.Outcomes.{Four, four, scheduled}
 use Rattle.session.specs.Tables.{as_purchases, as_sales}
-use Rattle.session.specs.declared.report.Report.{Report}
 use Rattle.session.specs.declared.session.Session.{Session}
 use Rattle.session.proofs.Joins.{four_same}
 
@@ -46,7 +45,3 @@ pub flow_fits : (there back : ℕ) (b₁ b₂ : Book) (o : Outcome) (z : ℤ) �
 flow_fits there back b₁ b₂ o z p q w e =
     let f : flow o.schedule ≡ z = sym (e ∙ w.flows) in
     record { sfits = small_flow z there back p q (subst (λ (x : ℤ). x ≤ℤ pos there) f w.feasible.there) (subst (λ (x : ℤ). neg_ℤ x ≤ℤ pos back) f w.feasible.back) }
-
--- a clearing after the checks, which leave the tables as they were
-pub cleared_session : (g : ℕ → ℕ → ℕ → ℕ) (f : ℤ → ℤ → ℤ) (s : Session) (t t' : Four) (r : Report) (u : Four) → t' ≡ t → Reports (outcome_at g f s t') r → u ≡ scheduled (outcome_at g f s t') s t' → ReportsAndWrites (outcome_at g f s t) s t r u
-cleared_session g f s t t' r u e p q = subst (λ (x : Four). ReportsAndWrites (outcome_at g f s x) s x r u) e (p, q)

@@ -1,10 +1,9 @@
 -- Calls on one table, one zone and both zones: what they promise follows from what their parts promise.
-use Rattle.std.proofs.Common.{◌≡◌, ℕ, List, [], ◌∷◌, ◌++◌, Some, None, Ok, Err, Option, Result, sym, refl, ap, ◌∙◌, subst, subst₂}
-use Rattle.market.proofs.Causes.{first_accepts}
-use Rattle.market.specs.Entering.{bid_causes}
+use Rattle.std.proofs.Common.{◌≡◌, ℕ, List, [], ◌∷◌, Some, None, Ok, Err, Option, Result, sym, refl, ap, ◌∙◌, subst}
+use Rattle.market.specs.Places.{SamePlaces, SameZonePlaces}
 use Rattle.market.specs.Refusals.{Cause, FirstCause}
-use Rattle.market.specs.declared.account.Account.{Account}
-use Rattle.market.specs.declared.block.Bid.{Bid}
+use Rattle.market.specs.declared.places.BlockPlaces.{BlockPlaces}
+use Rattle.market.specs.declared.places.ZonePlaces.{ZonePlaces}
 use Rattle.market.specs.declared.purchase.Purchase as purchase
 use Rattle.market.specs.declared.refusal.Refusal.{Refusal}
 use Rattle.market.specs.declared.sale.Sale as sale
@@ -13,9 +12,9 @@ use Rattle.market.specs.declared.zone.Side.TheVariants.{Sale, Purchase}
 use Rattle.market.specs.declared.zone.Zone.{Zone}
 use Rattle.market.specs.declared.zone.Zone.TheVariants.{One, Two}
 use Rattle.session.specs.Outcomes.{four}
-use Rattle.session.specs.Causes.{owned_causes, row_enter_causes, standing_causes}
 use Rattle.session.specs.Changes.{Becomes, Leaves, SessionBecomes, ZoneBecomes}
-use Rattle.session.specs.Tables.{Counted, Kind, ZoneTables, blocks_of, in_zone, lent, put_in, zone_tables}
+use Rattle.session.specs.Lending.{blocks_held, zone_held}
+use Rattle.session.specs.Tables.{Counted, ZoneTables, in_zone, lent}
 use Rattle.session.specs.declared.session.Session.{Session}
 use Rattle.session.specs.declared.session.ZoneCounts.{ZoneCounts}
 
@@ -28,25 +27,6 @@ pub err_as : (A B : Type 0) (cs : List Cause) (w : Refusal) → FirstCause {A = 
 err_as A B [] w h = h
 err_as A B (c ∷ cs) w h = (h.0, λ n. err_as A B cs w (h.1 n))
 
--- ---- one table
-abbrev pub RowEntered : {X K : Type 0} → Kind X K → X → Bid → List X → ℕ → List Account → ℕ → Result ℕ Refusal → List X → List Account → Type 0
-RowEntered k x b xs n us m r ys bs = record {
-  why : FirstCause (row_enter_causes k x b (lent xs n) (lent us m)) r;
-  after : Leaves xs (Becomes (put_in k x (lent xs n))) r ys;
-  accounts : bs ≡ us;
-}
-
-pub entered_row : {X K : Type 0} (k : Kind X K) (x : X) (b : Bid) (xs : List X) (n : ℕ) (as' : List Account) (m : ℕ) (xs' : List X) (bs' : List Account) → xs' ≡ xs → bs' ≡ as' →
-    FirstCause {A = Unit {0}} (standing_causes k (lent xs n) (lent as' m)) (Ok tt) → (r : Result ℕ Refusal) (ys : List X) (cs : List Account) →
-    FirstCause (bid_causes b ++ owned_causes k x b.agent (lent xs' n) (lent bs' m)) r → Leaves xs' (Becomes (put_in k x (lent xs' n))) r ys → cs ≡ bs' → RowEntered k x b xs n as' m r ys cs
-entered_row k x b xs n as' m xs' bs' p q f r ys cs w a e =
-    let why : FirstCause (bid_causes b ++ owned_causes k x b.agent (lent xs n) (lent as' m)) r = subst₂ (λ zs ds. FirstCause (bid_causes b ++ owned_causes k x b.agent (lent zs n) (lent ds m)) r) p q w in
-    record {
-      why = first_accepts {A = Unit {0}} {B = ℕ} (standing_causes k (lent xs n) (lent as' m)) (bid_causes b ++ owned_causes k x b.agent (lent xs n) (lent as' m)) (tt {0}) r f why;
-      after = subst (λ zs. Leaves zs (Becomes (put_in k x (lent zs n))) r ys) p a;
-      accounts = e ∙ q;
-    }
-
 -- ---- the two sides of a zone
 abbrev pub with_sales : ZoneCounts → Result ℕ Refusal → Result ZoneCounts Refusal
 with_sales n (Ok m) = Ok record { sales = m; purchases = n.purchases }
@@ -56,22 +36,27 @@ abbrev pub with_purchases : ZoneCounts → Result ℕ Refusal → Result ZoneCou
 with_purchases n (Ok m) = Ok record { sales = n.sales; purchases = m }
 with_purchases n (Err w) = Err w
 
-module _ (causes : Side → List Cause) (change : Side → ZoneTables → ZoneTables) (n : ZoneCounts) (ss : List sale.Sale) (ps : List purchase.Purchase) where
+module _ (causes : Side → List Cause) (change : Side → ZoneTables → ZoneTables) (n : ZoneCounts) (p : ZonePlaces) where
   abbrev pub InSide : Side → Result ZoneCounts Refusal → List sale.Sale → List purchase.Purchase → Type 0
   InSide s r ts qs = record {
     why : FirstCause (causes s) r;
-    after : ZoneBecomes ss ps (change s (zone_tables n ss ps)) r ts qs;
+    after : ZoneBecomes p.sales.now p.purchases.now (change s (zone_held n p)) r ts qs;
+    lent : SameZonePlaces p p;
   }
 
-  pub in_sales : (s : Side) → s ≡ Sale → (t : Counted sale.Sale) → change Sale (zone_tables n ss ps) ≡ record { sales = t; purchases = lent ps n.purchases } →
-      (r : Result ℕ Refusal) (ts : List sale.Sale) → FirstCause (causes Sale) r → Leaves ss (Becomes t) r ts → InSide s (with_sales n r) ts ps
-  in_sales s e t c (Ok m) ts w a = subst (λ (x : Side). InSide x (with_sales n (Ok m)) ts ps) (sym e) record { why = ok_as (causes Sale) m (record { sales = m; purchases = n.purchases }) w; after = subst (λ (z : ZoneTables). ZoneBecomes ss ps z (with_sales n (Ok m)) ts ps) (sym c) (a, (refl, refl)) }
-  in_sales s e t c (Err why) ts w a = subst (λ (x : Side). InSide x (Err why) ts ps) (sym e) record { why = err_as ℕ ZoneCounts (causes Sale) why w; after = (a, refl) }
+  -- of a call on the one table that becomes t
+  abbrev pub InTable : {X : Type 0} → Side → List X → Counted X → Result ℕ Refusal → List X → Type 0
+  InTable s xs t r ys = record { why : FirstCause (causes s) r; after : Leaves xs (Becomes t) r ys }
 
-  pub in_purchases : (s : Side) → s ≡ Purchase → (t : Counted purchase.Purchase) → change Purchase (zone_tables n ss ps) ≡ record { sales = lent ss n.sales; purchases = t } →
-      (r : Result ℕ Refusal) (qs : List purchase.Purchase) → FirstCause (causes Purchase) r → Leaves ps (Becomes t) r qs → InSide s (with_purchases n r) ss qs
-  in_purchases s e t c (Ok m) qs w a = subst (λ (x : Side). InSide x (with_purchases n (Ok m)) ss qs) (sym e) record { why = ok_as (causes Purchase) m (record { sales = n.sales; purchases = m }) w; after = subst (λ (z : ZoneTables). ZoneBecomes ss ps z (with_purchases n (Ok m)) ss qs) (sym c) ((refl, refl), a) }
-  in_purchases s e t c (Err why) qs w a = subst (λ (x : Side). InSide x (Err why) ss qs) (sym e) record { why = err_as ℕ ZoneCounts (causes Purchase) why w; after = (refl, a) }
+  pub in_sales : (s : Side) → s ≡ Sale → (t : Counted sale.Sale) → change Sale (zone_held n p) ≡ record { sales = t; purchases = lent p.purchases.now n.purchases } →
+      (r : Result ℕ Refusal) (ts : List sale.Sale) → InTable Sale p.sales.now t r ts → InSide s (with_sales n r) ts p.purchases.now
+  in_sales s e t c (Ok m) ts k = subst (λ (x : Side). InSide x (with_sales n (Ok m)) ts p.purchases.now) (sym e) record { why = ok_as (causes Sale) m (record { sales = m; purchases = n.purchases }) k.why; after = subst (λ (z : ZoneTables). ZoneBecomes p.sales.now p.purchases.now z (with_sales n (Ok m)) ts p.purchases.now) (sym c) (k.after, (refl, refl)); lent = (refl, refl) }
+  in_sales s e t c (Err why) ts k = subst (λ (x : Side). InSide x (Err why) ts p.purchases.now) (sym e) record { why = err_as ℕ ZoneCounts (causes Sale) why k.why; after = (k.after, refl); lent = (refl, refl) }
+
+  pub in_purchases : (s : Side) → s ≡ Purchase → (t : Counted purchase.Purchase) → change Purchase (zone_held n p) ≡ record { sales = lent p.sales.now n.sales; purchases = t } →
+      (r : Result ℕ Refusal) (qs : List purchase.Purchase) → InTable Purchase p.purchases.now t r qs → InSide s (with_purchases n r) p.sales.now qs
+  in_purchases s e t c (Ok m) qs k = subst (λ (x : Side). InSide x (with_purchases n (Ok m)) p.sales.now qs) (sym e) record { why = ok_as (causes Purchase) m (record { sales = n.sales; purchases = m }) k.why; after = subst (λ (z : ZoneTables). ZoneBecomes p.sales.now p.purchases.now z (with_purchases n (Ok m)) p.sales.now qs) (sym c) ((refl, refl), k.after); lent = (refl, refl) }
+  in_purchases s e t c (Err why) qs k = subst (λ (x : Side). InSide x (Err why) p.sales.now qs) (sym e) record { why = err_as ℕ ZoneCounts (causes Purchase) why k.why; after = (refl, k.after); lent = (refl, refl) }
 
 -- ---- the two zones
 abbrev pub with_one : Session → Result ZoneCounts Refusal → Result Session Refusal
@@ -82,23 +67,32 @@ abbrev pub with_two : Session → Result ZoneCounts Refusal → Result Session R
 with_two s (Ok m) = Ok record { capacities = s.capacities; one = s.one; two = m }
 with_two s (Err w) = Err w
 
-module _ (causes : Option Zone → List Cause) (change : ZoneTables → ZoneTables) (s : Session) (a : List sale.Sale) (b : List purchase.Purchase) (c : List sale.Sale) (d : List purchase.Purchase) where
-  abbrev pub InZones : Option Zone → Result Session Refusal → List sale.Sale → List purchase.Purchase → List sale.Sale → List purchase.Purchase → Type 0
-  InZones z r a' b' c' d' = record {
+module _ (causes : Option Zone → List Cause) (change : ZoneTables → ZoneTables) (s : Session) (t : BlockPlaces) where
+  abbrev pub InZones : Option Zone → Result Session Refusal → BlockPlaces → Type 0
+  InZones z r u = record {
     why : FirstCause (causes z) r;
-    after : SessionBecomes s a b c d (in_zone z change (blocks_of s a b c d)) r a' b' c' d';
+    after : SessionBecomes s t.one.sales.now t.one.purchases.now t.two.sales.now t.two.purchases.now (in_zone z change (blocks_held s t)) r u.one.sales.now u.one.purchases.now u.two.sales.now u.two.purchases.now;
+    lent : SamePlaces t u;
   }
 
-  pub in_one : (z : Option Zone) → Some One ≡ z → (r : Result ZoneCounts Refusal) (a' : List sale.Sale) (b' : List purchase.Purchase) → FirstCause (causes (Some One)) r → ZoneBecomes a b (change (zone_tables s.one a b)) r a' b' → InZones z (with_one s r) a' b' c d
-  in_one z e (Ok m) a' b' w x = subst (λ (y : Option Zone). InZones y (with_one s (Ok m)) a' b' c d) e record { why = ok_as (causes (Some One)) m (record { capacities = s.capacities; one = m; two = s.two }) w; after = (refl, x.0, x.1, (refl, refl), (refl, refl)) }
-  in_one z e (Err why) a' b' w x = subst (λ (y : Option Zone). InZones y (Err why) a' b' c d) e record { why = err_as ZoneCounts Session (causes (Some One)) why w; after = (x.0, x.1, refl, refl) }
+  -- of a call on the one zone
+  abbrev pub InZone : Zone → ZoneCounts → ZonePlaces → Result ZoneCounts Refusal → ZonePlaces → Type 0
+  InZone z n p r q = record {
+    why : FirstCause (causes (Some z)) r;
+    after : ZoneBecomes p.sales.now p.purchases.now (change (zone_held n p)) r q.sales.now q.purchases.now;
+    lent : SameZonePlaces p q;
+  }
 
-  pub in_two : (z : Option Zone) → Some Two ≡ z → (r : Result ZoneCounts Refusal) (c' : List sale.Sale) (d' : List purchase.Purchase) → FirstCause (causes (Some Two)) r → ZoneBecomes c d (change (zone_tables s.two c d)) r c' d' → InZones z (with_two s r) a b c' d'
-  in_two z e (Ok m) c' d' w x = subst (λ (y : Option Zone). InZones y (with_two s (Ok m)) a b c' d') e record { why = ok_as (causes (Some Two)) m (record { capacities = s.capacities; one = s.one; two = m }) w; after = (refl, (refl, refl), (refl, refl), x.0, x.1) }
-  in_two z e (Err why) c' d' w x = subst (λ (y : Option Zone). InZones y (Err why) a b c' d') e record { why = err_as ZoneCounts Session (causes (Some Two)) why w; after = (refl, refl, x.0, x.1) }
+  pub in_one : (z : Option Zone) → Some One ≡ z → (r : Result ZoneCounts Refusal) (q : ZonePlaces) → InZone One s.one t.one r q → InZones z (with_one s r) (record { one = q; two = t.two })
+  in_one z e (Ok m) q k = subst (λ (y : Option Zone). InZones y (with_one s (Ok m)) (record { one = q; two = t.two })) e record { why = ok_as (causes (Some One)) m (record { capacities = s.capacities; one = m; two = s.two }) k.why; after = (refl, k.after.0, k.after.1, (refl, refl), (refl, refl)); lent = (k.lent, (refl, refl)) }
+  in_one z e (Err why) q k = subst (λ (y : Option Zone). InZones y (Err why) (record { one = q; two = t.two })) e record { why = err_as ZoneCounts Session (causes (Some One)) why k.why; after = (k.after.0, k.after.1, refl, refl); lent = (k.lent, (refl, refl)) }
 
-  pub in_none : (z : Option Zone) → None ≡ z → (why : Refusal) → FirstCause {A = Session} (causes None) (Err why) → InZones z (Err why) a b c d
-  in_none z e why w = subst (λ (y : Option Zone). InZones y (Err why) a b c d) e record { why = w; after = (refl, refl, refl, refl) }
+  pub in_two : (z : Option Zone) → Some Two ≡ z → (r : Result ZoneCounts Refusal) (q : ZonePlaces) → InZone Two s.two t.two r q → InZones z (with_two s r) (record { one = t.one; two = q })
+  in_two z e (Ok m) q k = subst (λ (y : Option Zone). InZones y (with_two s (Ok m)) (record { one = t.one; two = q })) e record { why = ok_as (causes (Some Two)) m (record { capacities = s.capacities; one = s.one; two = m }) k.why; after = (refl, (refl, refl), (refl, refl), k.after.0, k.after.1); lent = ((refl, refl), k.lent) }
+  in_two z e (Err why) q k = subst (λ (y : Option Zone). InZones y (Err why) (record { one = t.one; two = q })) e record { why = err_as ZoneCounts Session (causes (Some Two)) why k.why; after = (refl, refl, k.after.0, k.after.1); lent = ((refl, refl), k.lent) }
+
+  pub in_none : (z : Option Zone) → None ≡ z → (why : Refusal) → FirstCause {A = Session} (causes None) (Err why) → InZones z (Err why) t
+  in_none z e why w = subst (λ (y : Option Zone). InZones y (Err why) t) e record { why = w; after = (refl, refl, refl, refl); lent = ((refl, refl), (refl, refl)) }
 
 pub four_same : (a a' : List sale.Sale) (b b' : List purchase.Purchase) (c c' : List sale.Sale) (d d' : List purchase.Purchase) → a' ≡ a → b' ≡ b → c' ≡ c → d' ≡ d → four a' b' c' d' ≡ four a b c d
 four_same a a' b b' c c' d d' p q r s = ap (λ x. four x b' c' d') p ∙ ap (λ x. four a x c' d') q ∙ ap (λ x. four a b x d') r ∙ ap (λ x. four a b c x) s

@@ -1,6 +1,5 @@
 -- What a settlement makes of the accounts, of which only the counted ones are posted to.
-use Rattle.std.proofs.Common.{◌≡◌, List, ◌++◌, take, drop, ℤ, pos, Ok, Err, Result, ap, ◌∙◌, subst, subst₂, take-append-drop}
-use Rattle.market.proofs.Causes.{first_accepts}
+use Rattle.std.proofs.Common.{◌≡◌, List, ◌++◌, take, drop, ℤ, pos, Ok, Err, Result, ap, ◌∙◌, subst, take-append-drop}
 use Rattle.market.specs.Refusals.{FirstCause}
 use Rattle.market.specs.declared.account.Account.{Account}
 use Rattle.market.specs.declared.refusal.Refusal.{Refusal}
@@ -8,11 +7,8 @@ use Rattle.settlement.specs.Entries.{Outcome}
 use Rattle.settlement.specs.Settling.{Settlement, Settles, settle_causes as posting_causes}
 use Rattle.settlement.specs.declared.entry.Entry.{Entry}
 use Rattle.settlement.specs.declared.settle.Settled.{Settled}
-use Rattle.session.specs.Outcomes.{Four, Posts, blocks_at, held_for}
-use Rattle.session.specs.Causes.{five_causes, settle_causes}
-use Rattle.session.specs.Tables.{lent}
+use Rattle.session.specs.Outcomes.{Four, Posts, held_for}
 use Rattle.session.specs.declared.ledger.Ledger.{Ledger}
-use Rattle.session.specs.declared.report.Report.{Report}
 use Rattle.session.specs.declared.session.Session.{Session}
 
 pub posts_counted : (o : Outcome) (l : Ledger) (xs : List Account) (es : List Entry) (r : Result Settled Refusal) (ys : List Account) (fs : List Entry) →
@@ -20,17 +16,6 @@ pub posts_counted : (o : Outcome) (l : Ledger) (xs : List Account) (es : List En
 posts_counted o l xs es (Ok s) ys fs h =
     (subst (λ (zs : List Account). Settles o l.income l.residue (take l.accounts xs) zs es fs s) h.posts h, ap (λ (zs : List Account). zs ++ drop l.accounts xs) h.posts)
 posts_counted o l xs es (Err w) ys fs h = (ap (λ (zs : List Account). zs ++ drop l.accounts xs) h.0 ∙ take-append-drop l.accounts xs, h.1)
-
--- a settlement after the checks, which leave the tables as they were
-pub settled_session : (s : Session) (rep : Report) (l : Ledger) (t t' : Four) (xs xs' : List Account) (es : List Entry) → t' ≡ t → xs' ≡ xs →
-    FirstCause {A = Unit {0}} (five_causes (blocks_at s t) (lent xs l.accounts)) (Ok (tt {0})) → (r : Result Settled Refusal) (ys : List Account) (fs : List Entry) →
-    FirstCause (posting_causes (held_for s rep t') (take l.accounts xs') es l.income l.residue) r → Posts (held_for s rep t') l xs' es r ys fs →
-    FirstCause (settle_causes (held_for s rep t) (blocks_at s t) (lent xs l.accounts) es l.income l.residue) r × Posts (held_for s rep t) l xs es r ys fs
-settled_session s rep l t t' xs xs' es p q f r ys fs w h =
-    let w' : FirstCause (posting_causes (held_for s rep t) (take l.accounts xs) es l.income l.residue) r = subst₂ (λ (x : Four) (zs : List Account). FirstCause (posting_causes (held_for s rep x) (take l.accounts zs) es l.income l.residue) r) p q w in (
-      first_accepts {A = Unit {0}} {B = Settled} (five_causes (blocks_at s t) (lent xs l.accounts)) (posting_causes (held_for s rep t) (take l.accounts xs) es l.income l.residue) (tt {0}) r f w',
-      subst₂ (λ (x : Four) (zs : List Account). Posts (held_for s rep x) l zs es r ys fs) p q h,
-    )
 
 -- ---- the numbers that a settlement is given, as they are passed
 abbrev pub held_with : Session → ℤ → ℤ → ℤ → Four → Outcome

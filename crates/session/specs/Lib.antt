@@ -3,3 +3,4 @@ pub mod Causes
 pub mod Changes
 pub mod Outcomes
 pub mod Answers
+pub mod Lending

@@ -1,45 +1,46 @@
 // Clearing and settling the counted rows of the tables, once these are checked.
 ghost use Rattle.std.specs.Prelude.{◌≡◌};
+ghost use Rattle.market.specs.Places.{SamePlaces};
 ghost use Rattle.market.specs.Refusals.{FirstCause};
 ghost use Rattle.settlement.specs.Settling.{settle_causes};
-ghost use Rattle.session.specs.Outcomes.{Posts, Reports, ReportsAndWrites, four, held_for, outcome_at, scheduled};
+ghost use Rattle.session.specs.Outcomes.{Posts, Reports, ReportsAndWrites, held_for, outcome_at, scheduled};
 ghost use Rattle.session.specs.Causes.{BlocksFit, BlocksInOrder, clear_causes, settle_causes as exchange-settle-causes};
 ghost use Rattle.session.specs.Changes.{Leaves};
-ghost use Rattle.session.specs.Tables.{Fits, account_kind, blocks_of, lent, rows_of};
+ghost use Rattle.session.specs.Lending.{blocks_held, four_held};
+ghost use Rattle.session.specs.Tables.{Fits, account_kind, lent, rows_of};
 
 use crate::ledger::Ledger;
 use crate::report::Report;
 use crate::session::Session;
 use auction::engine::Engine;
 use market::account::Account;
-use market::purchase::Purchase;
+use market::places::BlockPlaces;
 use market::refusal::Refusal;
-use market::sale::Sale;
 use rules::price::PriceRule;
 use rules::sharing::SharingRule;
 use settlement::entry::Entry;
 use settlement::session::{ClearedSession, ClearedZone};
 use settlement::settle::Settled;
+use table::view::View;
 
 // Writes what is matched of each counted block, and reports prices, flow and surplus.
 fn clear_counted<P: PriceRule, S: SharingRule>(
     engine: &Engine<P, S>,
     session: Session,
-    sales_one: &mut [Sale],
-    purchases_one: &mut [Purchase],
-    sales_two: &mut [Sale],
-    purchases_two: &mut [Purchase],
+    blocks: &mut BlockPlaces<'_>,
 ) -> Report
-    requires fit { BlocksFit (blocks_of session sales_one.old purchases_one.old sales_two.old purchases_two.old) }
-    requires sound { BlocksInOrder (blocks_of session sales_one.old purchases_one.old sales_two.old purchases_two.old) }
-    ensures report { Reports (outcome_at (S.SharingRule.meaning engine.now.sharing_rule) (P.PriceRule.meaning engine.now.price_rule) session (four sales_one.old purchases_one.old sales_two.old purchases_two.old)) result }
-    ensures places { four sales_one.new purchases_one.new sales_two.new purchases_two.new ≡ scheduled (outcome_at (S.SharingRule.meaning engine.now.sharing_rule) (P.PriceRule.meaning engine.now.price_rule) session (four sales_one.old purchases_one.old sales_two.old purchases_two.old)) session (four sales_one.old purchases_one.old sales_two.old purchases_two.old) }
+    requires fit { BlocksFit (blocks_held session blocks.old) }
+    requires sound { BlocksInOrder (blocks_held session blocks.old) }
+    ensures report { Reports (outcome_at (S.SharingRule.meaning engine.now.sharing_rule) (P.PriceRule.meaning engine.now.price_rule) session (four_held blocks.old)) result }
+    ensures places { four_held blocks.new ≡ scheduled (outcome_at (S.SharingRule.meaning engine.now.sharing_rule) (P.PriceRule.meaning engine.now.price_rule) session (four_held blocks.old)) session (four_held blocks.old) }
+    ensures lent { SamePlaces blocks.old blocks.new }
 {
+    let BlockPlaces { one, two } = blocks;
     let clearing = engine.clear(
-        &mut sales_one[..session.one.sales],
-        &mut purchases_one[..session.one.purchases],
-        &mut sales_two[..session.two.sales],
-        &mut purchases_two[..session.two.purchases],
+        &mut one.sales[..session.one.sales],
+        &mut one.purchases[..session.one.purchases],
+        &mut two.sales[..session.two.sales],
+        &mut two.purchases[..session.two.purchases],
         session.capacities.forward(),
         session.capacities.backward(),
     );
@@ -52,31 +53,28 @@ fn clear_counted<P: PriceRule, S: SharingRule>(
 }
 
 // Writes the entries of the matched blocks and posts them to the counted accounts.
-fn settle_counted<'a, P, S>(
+fn settle_counted<P, S>(
     engine: &Engine<P, S>,
     session: Session,
     report: Report,
     ledger: Ledger,
-    sales_one: &'a [Sale],
-    purchases_one: &'a [Purchase],
-    sales_two: &'a [Sale],
-    purchases_two: &'a [Purchase],
+    blocks: &BlockPlaces<'_>,
     accounts: &mut [Account],
     entries: &mut [Entry],
 ) -> Result<Settled, Refusal>
-    requires fit { BlocksFit (blocks_of session sales_one.now purchases_one.now sales_two.now purchases_two.now) }
+    requires fit { BlocksFit (blocks_held session blocks.now) }
     requires accounts { Fits account_kind (lent accounts.old ledger.accounts) }
-    ensures why { FirstCause (settle_causes (held_for session report (four sales_one.now purchases_one.now sales_two.now purchases_two.now)) (rows_of (lent accounts.old ledger.accounts)) entries.old ledger.income ledger.residue) result }
-    ensures after { Posts (held_for session report (four sales_one.now purchases_one.now sales_two.now purchases_two.now)) ledger accounts.old entries.old result accounts.new entries.new }
+    ensures why { FirstCause (settle_causes (held_for session report (four_held blocks.now)) (rows_of (lent accounts.old ledger.accounts)) entries.old ledger.income ledger.residue) result }
+    ensures after { Posts (held_for session report (four_held blocks.now)) ledger accounts.old entries.old result accounts.new entries.new }
 {
     let one = ClearedZone {
-        sales: &sales_one[..session.one.sales],
-        purchases: &purchases_one[..session.one.purchases],
+        sales: &blocks.one.sales[..session.one.sales],
+        purchases: &blocks.one.purchases[..session.one.purchases],
         price: report.price_one,
     };
     let two = ClearedZone {
-        sales: &sales_two[..session.two.sales],
-        purchases: &purchases_two[..session.two.purchases],
+        sales: &blocks.two.sales[..session.two.sales],
+        purchases: &blocks.two.purchases[..session.two.purchases],
         price: report.price_two,
     };
     let cleared = ClearedSession {
@@ -97,25 +95,14 @@ fn settle_counted<'a, P, S>(
 pub fn clear_session<P: PriceRule, S: SharingRule>(
     engine: &Engine<P, S>,
     session: Session,
-    sales_one: &mut [Sale],
-    purchases_one: &mut [Purchase],
-    sales_two: &mut [Sale],
-    purchases_two: &mut [Purchase],
+    blocks: &mut BlockPlaces<'_>,
 ) -> Result<Report, Refusal>
-    ensures why { FirstCause (clear_causes (blocks_of session sales_one.old purchases_one.old sales_two.old purchases_two.old)) result }
-    ensures after { Leaves (four sales_one.old purchases_one.old sales_two.old purchases_two.old) (ReportsAndWrites (outcome_at (S.SharingRule.meaning engine.now.sharing_rule) (P.PriceRule.meaning engine.now.price_rule) session (four sales_one.old purchases_one.old sales_two.old purchases_two.old)) session (four sales_one.old purchases_one.old sales_two.old purchases_two.old)) result (four sales_one.new purchases_one.new sales_two.new purchases_two.new) }
+    ensures why { FirstCause (clear_causes (blocks_held session blocks.old)) result }
+    ensures after { Leaves (four_held blocks.old) (ReportsAndWrites (outcome_at (S.SharingRule.meaning engine.now.sharing_rule) (P.PriceRule.meaning engine.now.price_rule) session (four_held blocks.old)) session (four_held blocks.old)) result (four_held blocks.new) }
+    ensures lent { SamePlaces blocks.old blocks.new }
 {
-    match session.check(sales_one, purchases_one, sales_two, purchases_two) {
-        Ok(()) => Ok(clear_counted(
-            engine,
-            session,
-            sales_one,
-            purchases_one,
-            sales_two,
-            purchases_two,
-        )),
-        Err(why) => Err(why),
-    }
+    session.check(&*blocks)?;
+    Ok(clear_counted(engine, session, blocks))
 }
 
 // Checks the tables of blocks and the accounts, and settles.
@@ -124,40 +111,17 @@ pub fn settle_session<P, S>(
     session: Session,
     report: Report,
     ledger: Ledger,
-    sales_one: &mut [Sale],
-    purchases_one: &mut [Purchase],
-    sales_two: &mut [Sale],
-    purchases_two: &mut [Purchase],
+    blocks: &BlockPlaces<'_>,
     accounts: &mut [Account],
     entries: &mut [Entry],
 ) -> Result<Settled, Refusal>
-    ensures why { FirstCause (exchange-settle-causes (held_for session report (four sales_one.old purchases_one.old sales_two.old purchases_two.old)) (blocks_of session sales_one.old purchases_one.old sales_two.old purchases_two.old) (lent accounts.old ledger.accounts) entries.old ledger.income ledger.residue) result }
-    ensures after { Posts (held_for session report (four sales_one.old purchases_one.old sales_two.old purchases_two.old)) ledger accounts.old entries.old result accounts.new entries.new }
-    ensures sales_one { sales_one.new ≡ sales_one.old }
-    ensures purchases_one { purchases_one.new ≡ purchases_one.old }
-    ensures sales_two { sales_two.new ≡ sales_two.old }
-    ensures purchases_two { purchases_two.new ≡ purchases_two.old }
+    ensures why { FirstCause (exchange-settle-causes (held_for session report (four_held blocks.now)) (blocks_held session blocks.now) (lent accounts.old ledger.accounts) entries.old ledger.income ledger.residue) result }
+    ensures after { Posts (held_for session report (four_held blocks.now)) ledger accounts.old entries.old result accounts.new entries.new }
 {
-    match session.check_all(
-        sales_one,
-        purchases_one,
-        sales_two,
-        purchases_two,
-        accounts,
-        ledger.accounts,
-    ) {
-        Ok(()) => settle_counted(
-            engine,
-            session,
-            report,
-            ledger,
-            &*sales_one,
-            &*purchases_one,
-            &*sales_two,
-            &*purchases_two,
-            accounts,
-            entries,
-        ),
-        Err(why) => Err(why),
-    }
+    let counted = View {
+        rows: &*accounts,
+        count: ledger.accounts,
+    };
+    session.check_all(blocks, counted)?;
+    settle_counted(engine, session, report, ledger, blocks, accounts, entries)
 }

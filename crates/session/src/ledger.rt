@@ -5,11 +5,12 @@ ghost use Rattle.session.specs.Causes.{admit_causes, begin_causes};
 ghost use Rattle.session.specs.Changes.{Admits, BegunWith, Leaves, new_ledger};
 ghost use Rattle.session.specs.Tables.{lent};
 
-use crate::rows::{fits, in_order, put};
+use crate::rows::put;
 use market::account::Account;
 use market::capacities::Capacities;
 use market::limits::agent_within;
 use market::refusal::Refusal;
+use table::table::Table;
 
 #[derive(Clone, Copy)]
 pub struct Ledger {
@@ -27,24 +28,18 @@ impl Ledger {
         ensures why { FirstCause (admit_causes agent (lent accounts.old self.accounts)) result }
         ensures after { Leaves accounts.old (Admits agent accounts.old self) result accounts.new }
     {
-        if !fits(accounts, self.accounts) {
+        let mut table = Table::new(accounts, self.accounts);
+        if !table.fits() {
             return Err(Refusal::TableSize);
         }
-        if !in_order(accounts, self.accounts) {
+        if !table.is_sound() {
             return Err(Refusal::TableDisturbed);
         }
         if !agent_within(agent) {
             return Err(Refusal::OutsideLimits);
         }
-        match put(accounts, self.accounts, Account { agent, position: 0 }) {
-            Ok(count) => Ok(Ledger {
-                accounts: count,
-                last_session: self.last_session,
-                income: self.income,
-                residue: self.residue,
-            }),
-            Err(why) => Err(why),
-        }
+        let accounts = put(&mut table, Account { agent, position: 0 })?;
+        Ok(Ledger { accounts, ..self })
     }
 }
 
@@ -78,10 +73,8 @@ impl Ledger {
         }
         let capacities = Capacities::new(forward, backward)?;
         let ledger = Ledger {
-            accounts: self.accounts,
             last_session: number,
-            income: self.income,
-            residue: self.residue,
+            ..self
         };
         Ok((ledger, capacities))
     }
@@ -91,10 +84,9 @@ impl Ledger {
         ensures { result ≡ record { accounts = self.accounts; last_session = self.last_session; income = income; residue = residue } }
     {
         Ledger {
-            accounts: self.accounts,
-            last_session: self.last_session,
             income,
             residue,
+            ..self
         }
     }
 }

@@ -4,6 +4,7 @@
 
 pub mod counted;
 pub mod ledger;
+pub mod lent;
 pub mod report;
 mod rows;
 pub mod session;

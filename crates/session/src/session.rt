@@ -1,20 +1,24 @@
 // The session that is open: what the interconnector can carry, and how many blocks are counted in each table.
 ghost use Rattle.std.specs.Prelude.{◌≡◌, ◌++◌, Err, Decides};
-ghost use Rattle.market.specs.Entering.{bid_causes};
+ghost use Rattle.market.specs.Places.{SamePlaces, SameZonePlaces};
 ghost use Rattle.market.specs.Refusals.{FirstCause};
 ghost use Rattle.session.specs.Causes.{BlocksFit, BlocksInOrder, ZoneFits, ZoneInOrder, clear_causes, enter_causes, five_causes, nowhere_causes, owned_causes, row_enter_causes, row_withdraw_causes, side_enter_causes, side_withdraw_causes, standing_causes, withdraw_causes};
 ghost use Rattle.session.specs.Changes.{Becomes, Leaves, Passed, SessionBecomes, ZoneBecomes, empty_session};
-ghost use Rattle.session.specs.Tables.{Fits, account_kind, blocks_of, entered_in, in_zone, kind, lent, put_in, taken_out, withdrawn_in, zone_at, zone_tables};
+ghost use Rattle.session.specs.Lending.{blocks_held, held, seen, zone_held};
+ghost use Rattle.session.specs.Tables.{Fits, account_kind, entered_in, in_zone, kind, lent, put_in, taken_out, withdrawn_in, zone_at};
 
-use crate::rows::{fits, in_order, put, stands, take_out};
+use crate::rows::put;
 use market::account::Account;
 use market::block::{Bid, Block, BlockKey};
 use market::capacities::Capacities;
+use market::places::{BlockPlaces, ZonePlaces};
 use market::purchase::Purchase;
 use market::refusal::Refusal;
 use market::sale::Sale;
 use market::zone::{Side, Zone};
 use table::record::Record;
+use table::table::Table;
+use table::view::View;
 
 #[derive(Clone, Copy)]
 pub struct ZoneCounts {
@@ -29,31 +33,14 @@ pub struct Session {
     pub two: ZoneCounts,
 }
 
-// The zone with the number, if there is one.
-fn zone_of(number: u32) -> Option<Zone>
-    ensures { result ≡ zone_at number }
-{
-    match Zone::try_from(number) {
-        Ok(zone) => Some(zone),
-        Err(_) => None,
-    }
-}
-
 // Checks the table that a row is to be put into, and the accounts.
-fn check_tables<R: Record>(
-    rows: &mut [R],
-    count: usize,
-    accounts: &mut [Account],
-    owners: usize,
-) -> Result<(), Refusal>
-    ensures why { FirstCause (standing_causes (kind R.order R.limits R.MAX) (lent rows.old count) (lent accounts.old owners)) result }
-    ensures rows { rows.new ≡ rows.old }
-    ensures accounts { accounts.new ≡ accounts.old }
+fn check_tables<R: Record>(table: &Table<'_, R>, accounts: View<'_, Account>) -> Result<(), Refusal>
+    ensures { FirstCause (standing_causes (kind R.order R.limits R.MAX) (held table.now) (seen accounts.entry)) result }
 {
-    if !(fits(rows, count) && fits(accounts, owners)) {
+    if !(table.fits() && accounts.fits()) {
         return Err(Refusal::TableSize);
     }
-    if !(in_order(rows, count) && in_order(accounts, owners)) {
+    if !(table.is_sound() && accounts.is_sound()) {
         return Err(Refusal::TableDisturbed);
     }
     Ok(())
@@ -61,60 +48,36 @@ fn check_tables<R: Record>(
 
 // Puts a row of an agent with an account into a table; answers the new count.
 fn put_owned<R: Record>(
-    rows: &mut [R],
-    count: usize,
-    accounts: &mut [Account],
-    owners: usize,
+    table: &mut Table<'_, R>,
+    accounts: View<'_, Account>,
     agent: u32,
     row: R,
 ) -> Result<usize, Refusal>
-    ensures why { FirstCause (owned_causes (kind R.order R.limits R.MAX) row agent (lent rows.old count) (lent accounts.old owners)) result }
-    ensures after { Leaves rows.old (Becomes (put_in (kind R.order R.limits R.MAX) row (lent rows.old count))) result rows.new }
-    ensures accounts { accounts.new ≡ accounts.old }
+    ensures why { FirstCause (owned_causes (kind R.order R.limits R.MAX) row agent (held table.old) (seen accounts.entry)) result }
+    ensures after { Leaves table.old.rows.now (Becomes (put_in (kind R.order R.limits R.MAX) row (held table.old))) result table.new.rows.now }
+    ensures lent { table.new.rows.ghost_name ≡ table.old.rows.ghost_name }
 {
-    if stands(accounts, owners, agent) {
-        put(rows, count, row)
-    } else {
-        Err(Refusal::NoAccount)
+    if accounts.find(agent).is_none() {
+        return Err(Refusal::NoAccount);
     }
+    put(table, row)
 }
 
-// The same for a bid, once its fields are checked.
-fn put_bid<R: Record>(
-    rows: &mut [R],
-    count: usize,
-    accounts: &mut [Account],
-    owners: usize,
-    bid: Bid,
-    row: R,
-) -> Result<usize, Refusal>
-    ensures why { FirstCause (bid_causes bid ++ owned_causes (kind R.order R.limits R.MAX) row bid.agent (lent rows.old count) (lent accounts.old owners)) result }
-    ensures after { Leaves rows.old (Becomes (put_in (kind R.order R.limits R.MAX) row (lent rows.old count))) result rows.new }
-    ensures accounts { accounts.new ≡ accounts.old }
-{
-    match bid.check() {
-        Ok(()) => put_owned(rows, count, accounts, owners, bid.agent, row),
-        Err(why) => Err(why),
-    }
-}
-
-// The same, once the table and the accounts are checked.
+// Puts a bid into a table as a row, once the tables and the bid are checked; answers the new count.
 fn enter_row<R: Record>(
     rows: &mut [R],
     count: usize,
-    accounts: &mut [Account],
-    owners: usize,
+    accounts: View<'_, Account>,
     bid: Bid,
     row: R,
 ) -> Result<usize, Refusal>
-    ensures why { FirstCause (row_enter_causes (kind R.order R.limits R.MAX) row bid (lent rows.old count) (lent accounts.old owners)) result }
+    ensures why { FirstCause (row_enter_causes (kind R.order R.limits R.MAX) row bid (lent rows.old count) (seen accounts.entry)) result }
     ensures after { Leaves rows.old (Becomes (put_in (kind R.order R.limits R.MAX) row (lent rows.old count))) result rows.new }
-    ensures accounts { accounts.new ≡ accounts.old }
 {
-    match check_tables(rows, count, accounts, owners) {
-        Ok(()) => put_bid(rows, count, accounts, owners, bid, row),
-        Err(why) => Err(why),
-    }
+    let mut table = Table { rows, count };
+    check_tables(&table, accounts)?;
+    bid.check()?;
+    put_owned(&mut table, accounts, bid.agent, row)
 }
 
 // Takes the block with the key out of a table; answers the new count.
@@ -126,108 +89,92 @@ fn withdraw_row<R: Record<Key = BlockKey>>(
     ensures why { FirstCause (row_withdraw_causes (kind R.order R.limits R.MAX) key (lent rows.old count)) result }
     ensures after { Leaves rows.old (Becomes (taken_out (kind R.order R.limits R.MAX) key (lent rows.old count))) result rows.new }
 {
-    if !fits(rows, count) {
+    let mut table = Table { rows, count };
+    if !table.fits() {
         return Err(Refusal::TableSize);
     }
-    if !in_order(rows, count) {
+    if !table.is_sound() {
         return Err(Refusal::TableDisturbed);
     }
     if !key.within_limits() {
         return Err(Refusal::OutsideLimits);
     }
-    match take_out(rows, count, key) {
-        Some(left) => Ok(left),
-        None => Err(Refusal::BlockAbsent),
+    if !table.remove(key) {
+        return Err(Refusal::BlockAbsent);
     }
+    Ok(table.count)
 }
 
 impl ZoneCounts {
     // Enters a bid on its side of the zone.
     fn enter(
         self,
-        sales: &mut [Sale],
-        purchases: &mut [Purchase],
-        accounts: &mut [Account],
-        owners: usize,
+        places: &mut ZonePlaces<'_>,
+        accounts: View<'_, Account>,
         side: Side,
         bid: Bid,
     ) -> Result<ZoneCounts, Refusal>
-        ensures why { FirstCause (side_enter_causes side bid (zone_tables self sales.old purchases.old) (lent accounts.old owners)) result }
-        ensures after { ZoneBecomes sales.old purchases.old (entered_in side bid (zone_tables self sales.old purchases.old)) result sales.new purchases.new }
-        ensures accounts { accounts.new ≡ accounts.old }
+        ensures why { FirstCause (side_enter_causes side bid (zone_held self places.old) (seen accounts.entry)) result }
+        ensures after { ZoneBecomes places.old.sales.now places.old.purchases.now (entered_in side bid (zone_held self places.old)) result places.new.sales.now places.new.purchases.now }
+        ensures lent { SameZonePlaces places.old places.new }
     {
         let block = Block { bid, matched: 0 };
         match side {
-            Side::Sale => match enter_row(
-                sales,
-                self.sales,
-                accounts,
-                owners,
-                bid,
-                Sale { block },
-            ) {
-                Ok(count) => Ok(ZoneCounts {
-                    sales: count,
-                    purchases: self.purchases,
-                }),
-                Err(why) => Err(why),
-            },
-            Side::Purchase => match enter_row(
-                purchases,
-                self.purchases,
-                accounts,
-                owners,
-                bid,
-                Purchase { block },
-            ) {
-                Ok(count) => Ok(ZoneCounts {
-                    sales: self.sales,
-                    purchases: count,
-                }),
-                Err(why) => Err(why),
-            },
+            Side::Sale => {
+                let sales = enter_row(
+                    &mut *places.sales,
+                    self.sales,
+                    accounts,
+                    bid,
+                    Sale { block },
+                )?;
+                Ok(ZoneCounts { sales, ..self })
+            }
+            Side::Purchase => {
+                let purchases = enter_row(
+                    &mut *places.purchases,
+                    self.purchases,
+                    accounts,
+                    bid,
+                    Purchase { block },
+                )?;
+                Ok(ZoneCounts { purchases, ..self })
+            }
         }
     }
 
     // Withdraws a block of a side of the zone.
     fn withdraw(
         self,
-        sales: &mut [Sale],
-        purchases: &mut [Purchase],
+        places: &mut ZonePlaces<'_>,
         side: Side,
         key: BlockKey,
     ) -> Result<ZoneCounts, Refusal>
-        ensures why { FirstCause (side_withdraw_causes side key (zone_tables self sales.old purchases.old)) result }
-        ensures after { ZoneBecomes sales.old purchases.old (withdrawn_in side key (zone_tables self sales.old purchases.old)) result sales.new purchases.new }
+        ensures why { FirstCause (side_withdraw_causes side key (zone_held self places.old)) result }
+        ensures after { ZoneBecomes places.old.sales.now places.old.purchases.now (withdrawn_in side key (zone_held self places.old)) result places.new.sales.now places.new.purchases.now }
+        ensures lent { SameZonePlaces places.old places.new }
     {
         match side {
-            Side::Sale => match withdraw_row(sales, self.sales, key) {
-                Ok(count) => Ok(ZoneCounts {
-                    sales: count,
-                    purchases: self.purchases,
-                }),
-                Err(why) => Err(why),
-            },
-            Side::Purchase => match withdraw_row(purchases, self.purchases, key) {
-                Ok(count) => Ok(ZoneCounts {
-                    sales: self.sales,
-                    purchases: count,
-                }),
-                Err(why) => Err(why),
-            },
+            Side::Sale => {
+                let sales = withdraw_row(&mut *places.sales, self.sales, key)?;
+                Ok(ZoneCounts { sales, ..self })
+            }
+            Side::Purchase => {
+                let purchases = withdraw_row(&mut *places.purchases, self.purchases, key)?;
+                Ok(ZoneCounts { purchases, ..self })
+            }
         }
     }
 }
 
 // Why a bid for a wrong zone is refused: the accounts are checked first.
-fn wrong_zone(accounts: &mut [Account], owners: usize) -> Refusal
-    ensures why { FirstCause {A = Session} (nowhere_causes (lent accounts.old owners)) (Err result) }
-    ensures accounts { accounts.new ≡ accounts.old }
+fn wrong_zone(accounts: View<'_, Account>) -> Refusal
+    ensures { FirstCause {A = Session} (nowhere_causes (seen accounts.entry)) (Err result) }
 {
-    if !fits(accounts, owners) {
+    if !accounts.fits() {
         return Refusal::TableSize;
     }
-    if !in_order(accounts, owners) {
+    if !accounts.is_sound() {
         return Refusal::TableDisturbed;
     }
     Refusal::OutsideLimits
@@ -252,173 +199,96 @@ impl Session {
     // Enters a bid in its zone, on its side.
     pub fn enter(
         self,
-        sales_one: &mut [Sale],
-        purchases_one: &mut [Purchase],
-        sales_two: &mut [Sale],
-        purchases_two: &mut [Purchase],
-        accounts: &mut [Account],
-        owners: usize,
+        blocks: &mut BlockPlaces<'_>,
+        accounts: View<'_, Account>,
         zone: u32,
         side: Side,
         bid: Bid,
     ) -> Result<Session, Refusal>
-        ensures why { FirstCause (enter_causes (zone_at zone) side bid (blocks_of self sales_one.old purchases_one.old sales_two.old purchases_two.old) (lent accounts.old owners)) result }
-        ensures after { SessionBecomes self sales_one.old purchases_one.old sales_two.old purchases_two.old (in_zone (zone_at zone) (entered_in side bid) (blocks_of self sales_one.old purchases_one.old sales_two.old purchases_two.old)) result sales_one.new purchases_one.new sales_two.new purchases_two.new }
-        ensures accounts { accounts.new ≡ accounts.old }
+        ensures why { FirstCause (enter_causes (zone_at zone) side bid (blocks_held self blocks.old) (seen accounts.entry)) result }
+        ensures after { SessionBecomes self blocks.old.one.sales.now blocks.old.one.purchases.now blocks.old.two.sales.now blocks.old.two.purchases.now (in_zone (zone_at zone) (entered_in side bid) (blocks_held self blocks.old)) result blocks.new.one.sales.now blocks.new.one.purchases.now blocks.new.two.sales.now blocks.new.two.purchases.now }
+        ensures lent { SamePlaces blocks.old blocks.new }
     {
-        match zone_of(zone) {
-            Some(Zone::One) => match self
-                .one
-                .enter(sales_one, purchases_one, accounts, owners, side, bid)
-            {
-                Ok(one) => Ok(Session {
-                    capacities: self.capacities,
-                    one,
-                    two: self.two,
-                }),
-                Err(why) => Err(why),
-            },
-            Some(Zone::Two) => match self
-                .two
-                .enter(sales_two, purchases_two, accounts, owners, side, bid)
-            {
-                Ok(two) => Ok(Session {
-                    capacities: self.capacities,
-                    one: self.one,
-                    two,
-                }),
-                Err(why) => Err(why),
-            },
-            None => Err(wrong_zone(accounts, owners)),
+        match Zone::try_from(zone) {
+            Ok(Zone::One) => {
+                let one = self.one.enter(&mut blocks.one, accounts, side, bid)?;
+                Ok(Session { one, ..self })
+            }
+            Ok(Zone::Two) => {
+                let two = self.two.enter(&mut blocks.two, accounts, side, bid)?;
+                Ok(Session { two, ..self })
+            }
+            Err(_) => Err(wrong_zone(accounts)),
         }
     }
 
     // Withdraws a block of a zone and side.
     pub fn withdraw(
         self,
-        sales_one: &mut [Sale],
-        purchases_one: &mut [Purchase],
-        sales_two: &mut [Sale],
-        purchases_two: &mut [Purchase],
+        blocks: &mut BlockPlaces<'_>,
         zone: u32,
         side: Side,
         key: BlockKey,
     ) -> Result<Session, Refusal>
-        ensures why { FirstCause (withdraw_causes (zone_at zone) side key (blocks_of self sales_one.old purchases_one.old sales_two.old purchases_two.old)) result }
-        ensures after { SessionBecomes self sales_one.old purchases_one.old sales_two.old purchases_two.old (in_zone (zone_at zone) (withdrawn_in side key) (blocks_of self sales_one.old purchases_one.old sales_two.old purchases_two.old)) result sales_one.new purchases_one.new sales_two.new purchases_two.new }
+        ensures why { FirstCause (withdraw_causes (zone_at zone) side key (blocks_held self blocks.old)) result }
+        ensures after { SessionBecomes self blocks.old.one.sales.now blocks.old.one.purchases.now blocks.old.two.sales.now blocks.old.two.purchases.now (in_zone (zone_at zone) (withdrawn_in side key) (blocks_held self blocks.old)) result blocks.new.one.sales.now blocks.new.one.purchases.now blocks.new.two.sales.now blocks.new.two.purchases.now }
+        ensures lent { SamePlaces blocks.old blocks.new }
     {
-        match zone_of(zone) {
-            Some(Zone::One) => match self.one.withdraw(sales_one, purchases_one, side, key) {
-                Ok(one) => Ok(Session {
-                    capacities: self.capacities,
-                    one,
-                    two: self.two,
-                }),
-                Err(why) => Err(why),
-            },
-            Some(Zone::Two) => match self.two.withdraw(sales_two, purchases_two, side, key) {
-                Ok(two) => Ok(Session {
-                    capacities: self.capacities,
-                    one: self.one,
-                    two,
-                }),
-                Err(why) => Err(why),
-            },
-            None => Err(Refusal::OutsideLimits),
+        match Zone::try_from(zone)? {
+            Zone::One => {
+                let one = self.one.withdraw(&mut blocks.one, side, key)?;
+                Ok(Session { one, ..self })
+            }
+            Zone::Two => {
+                let two = self.two.withdraw(&mut blocks.two, side, key)?;
+                Ok(Session { two, ..self })
+            }
         }
     }
 }
 
 impl ZoneCounts {
     // Whether the tables of the zone are within their sizes.
-    fn fits(self, sales: &mut [Sale], purchases: &mut [Purchase]) -> bool
-        ensures answer { Decides result (ZoneFits (zone_tables self sales.old purchases.old)) }
-        ensures sales { sales.new ≡ sales.old }
-        ensures purchases { purchases.new ≡ purchases.old }
+    fn fits(self, places: &ZonePlaces<'_>) -> bool
+        ensures { Decides result (ZoneFits (zone_held self places.now)) }
     {
-        if fits(sales, self.sales) {
-            fits(purchases, self.purchases)
-        } else {
-            false
-        }
+        View::new(&*places.sales, self.sales).fits()
+            && View::new(&*places.purchases, self.purchases).fits()
     }
 
     // Whether the counted blocks of the zone are within their limits and in order, with no key twice.
-    fn in_order(self, sales: &mut [Sale], purchases: &mut [Purchase]) -> bool
-        ensures answer { Decides result (ZoneInOrder (zone_tables self sales.old purchases.old)) }
-        ensures sales { sales.new ≡ sales.old }
-        ensures purchases { purchases.new ≡ purchases.old }
+    fn in_order(self, places: &ZonePlaces<'_>) -> bool
+        ensures { Decides result (ZoneInOrder (zone_held self places.now)) }
     {
-        if in_order(sales, self.sales) {
-            in_order(purchases, self.purchases)
-        } else {
-            false
-        }
+        View::new(&*places.sales, self.sales).is_sound()
+            && View::new(&*places.purchases, self.purchases).is_sound()
     }
 }
 
 impl Session {
     // Whether the four tables of blocks are within their sizes.
-    fn fits(
-        self,
-        sales_one: &mut [Sale],
-        purchases_one: &mut [Purchase],
-        sales_two: &mut [Sale],
-        purchases_two: &mut [Purchase],
-    ) -> bool
-        ensures answer { Decides result (BlocksFit (blocks_of self sales_one.old purchases_one.old sales_two.old purchases_two.old)) }
-        ensures sales_one { sales_one.new ≡ sales_one.old }
-        ensures purchases_one { purchases_one.new ≡ purchases_one.old }
-        ensures sales_two { sales_two.new ≡ sales_two.old }
-        ensures purchases_two { purchases_two.new ≡ purchases_two.old }
+    fn fits(self, blocks: &BlockPlaces<'_>) -> bool
+        ensures { Decides result (BlocksFit (blocks_held self blocks.now)) }
     {
-        if self.one.fits(sales_one, purchases_one) {
-            self.two.fits(sales_two, purchases_two)
-        } else {
-            false
-        }
+        self.one.fits(&blocks.one) && self.two.fits(&blocks.two)
     }
 
     // Whether the counted blocks are within their limits and in order, with no key twice in a table.
-    fn in_order(
-        self,
-        sales_one: &mut [Sale],
-        purchases_one: &mut [Purchase],
-        sales_two: &mut [Sale],
-        purchases_two: &mut [Purchase],
-    ) -> bool
-        ensures answer { Decides result (BlocksInOrder (blocks_of self sales_one.old purchases_one.old sales_two.old purchases_two.old)) }
-        ensures sales_one { sales_one.new ≡ sales_one.old }
-        ensures purchases_one { purchases_one.new ≡ purchases_one.old }
-        ensures sales_two { sales_two.new ≡ sales_two.old }
-        ensures purchases_two { purchases_two.new ≡ purchases_two.old }
+    fn in_order(self, blocks: &BlockPlaces<'_>) -> bool
+        ensures { Decides result (BlocksInOrder (blocks_held self blocks.now)) }
     {
-        if self.one.in_order(sales_one, purchases_one) {
-            self.two.in_order(sales_two, purchases_two)
-        } else {
-            false
-        }
+        self.one.in_order(&blocks.one) && self.two.in_order(&blocks.two)
     }
 
     // Checks the tables of a clearing.
-    pub fn check(
-        self,
-        sales_one: &mut [Sale],
-        purchases_one: &mut [Purchase],
-        sales_two: &mut [Sale],
-        purchases_two: &mut [Purchase],
-    ) -> Result<(), Refusal>
-        ensures why { FirstCause (clear_causes (blocks_of self sales_one.old purchases_one.old sales_two.old purchases_two.old)) result }
-        ensures passed { Passed (BlocksFit (blocks_of self sales_one.old purchases_one.old sales_two.old purchases_two.old) × BlocksInOrder (blocks_of self sales_one.old purchases_one.old sales_two.old purchases_two.old)) result }
-        ensures sales_one { sales_one.new ≡ sales_one.old }
-        ensures purchases_one { purchases_one.new ≡ purchases_one.old }
-        ensures sales_two { sales_two.new ≡ sales_two.old }
-        ensures purchases_two { purchases_two.new ≡ purchases_two.old }
+    pub fn check(self, blocks: &BlockPlaces<'_>) -> Result<(), Refusal>
+        ensures why { FirstCause (clear_causes (blocks_held self blocks.now)) result }
+        ensures passed { Passed (BlocksFit (blocks_held self blocks.now) × BlocksInOrder (blocks_held self blocks.now)) result }
     {
-        if !self.fits(sales_one, purchases_one, sales_two, purchases_two) {
+        if !self.fits(blocks) {
             return Err(Refusal::TableSize);
         }
-        if !self.in_order(sales_one, purchases_one, sales_two, purchases_two) {
+        if !self.in_order(blocks) {
             return Err(Refusal::TableDisturbed);
         }
         Ok(())
@@ -427,29 +297,16 @@ impl Session {
     // Checks the tables of a settlement.
     pub fn check_all(
         self,
-        sales_one: &mut [Sale],
-        purchases_one: &mut [Purchase],
-        sales_two: &mut [Sale],
-        purchases_two: &mut [Purchase],
-        accounts: &mut [Account],
-        owners: usize,
+        blocks: &BlockPlaces<'_>,
+        accounts: View<'_, Account>,
     ) -> Result<(), Refusal>
-        ensures why { FirstCause (five_causes (blocks_of self sales_one.old purchases_one.old sales_two.old purchases_two.old) (lent accounts.old owners)) result }
-        ensures passed { Passed (BlocksFit (blocks_of self sales_one.old purchases_one.old sales_two.old purchases_two.old) × Fits account_kind (lent accounts.old owners)) result }
-        ensures sales_one { sales_one.new ≡ sales_one.old }
-        ensures purchases_one { purchases_one.new ≡ purchases_one.old }
-        ensures sales_two { sales_two.new ≡ sales_two.old }
-        ensures purchases_two { purchases_two.new ≡ purchases_two.old }
-        ensures accounts { accounts.new ≡ accounts.old }
+        ensures why { FirstCause (five_causes (blocks_held self blocks.now) (seen accounts.entry)) result }
+        ensures passed { Passed (BlocksFit (blocks_held self blocks.now) × Fits account_kind (seen accounts.entry)) result }
     {
-        if !(self.fits(sales_one, purchases_one, sales_two, purchases_two)
-            && fits(accounts, owners))
-        {
+        if !(self.fits(blocks) && accounts.fits()) {
             return Err(Refusal::TableSize);
         }
-        if !(self.in_order(sales_one, purchases_one, sales_two, purchases_two)
-            && in_order(accounts, owners))
-        {
+        if !(self.in_order(blocks) && accounts.is_sound()) {
             return Err(Refusal::TableDisturbed);
         }
         Ok(())

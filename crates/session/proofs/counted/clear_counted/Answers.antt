@@ -1,11 +1,12 @@
-use Rattle.std.proofs.Common.{◌≡◌, ℕ, take, ap, ◌∙◌, subst₂, w32, w64, SFits, to_z, of_z, rules}
+use Rattle.std.proofs.Common.{◌≡◌, ℕ, take, refl, ap, ◌∙◌, subst₂, w32, w64, SFits, to_z, of_z, rules}
 use Rattle.std.proofs.lemmas.Int.{to_z-of_z}
 use Rattle.auction.specs.Best.{ClearedWell}
 use Rattle.auction.specs.Books.{Book, surplus}
 use Rattle.auction.specs.Clearing.{clearing}
 use Rattle.auction.specs.Steps.{Clears}
 use Rattle.auction.specs.Tables.{book}
-use Rattle.session.specs.Outcomes.{four, outcome_at}
+use Rattle.session.specs.Lending.{four_held}
+use Rattle.session.specs.Outcomes.{Four, outcome_at}
 use Rattle.session.proofs.Clears.{flow_fits, places_scheduled}
 use Rattle.session.proofs.counted.clear_counted.Goals as goal
 
@@ -16,9 +17,9 @@ returns g c =
     let r = c.clear-clearing.result in
     let m = g.S.SharingRule.meaning a.engine.now.sharing_rule in
     let f = g.P.PriceRule.meaning a.engine.now.price_rule in
-    let b₁ : Book = book (take s.one.sales a.sales_one.now) (take s.one.purchases a.purchases_one.now) in
-    let b₂ : Book = book (take s.two.sales a.sales_two.now) (take s.two.purchases a.purchases_two.now) in
-    let t = four a.sales_one.now a.purchases_one.now a.sales_two.now a.purchases_two.now in
+    let t : Four = four_held a.blocks.now in
+    let b₁ : Book = book (take s.one.sales t.sales₁) (take s.one.purchases t.purchases₁) in
+    let b₂ : Book = book (take s.two.sales t.sales₂) (take s.two.purchases t.purchases₂) in
     let l = c.clear-clearing.new in
     let clears : Clears m f c.forward.result c.backward.result b₁ b₂ (book l.sales_one l.purchases_one) (book l.sales_two l.purchases_two) r.price_one r.price_two r.flow = search rules in
     let k : Clears m f s.capacities.forward s.capacities.backward b₁ b₂ (book l.sales_one l.purchases_one) (book l.sales_two l.purchases_two) r.price_one r.price_two r.flow =
@@ -39,4 +40,5 @@ returns g c =
         gained = to_z-of_z w64 r.surplus fits-gain ∙ gain;
       };
       places = places_scheduled (outcome_at m f s t) s t l.sales_one l.purchases_one l.sales_two l.purchases_two k.zone₁ k.zone₂;
+      lent = ((refl, refl), (refl, refl));
     }

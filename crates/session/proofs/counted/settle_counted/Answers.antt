@@ -1,6 +1,7 @@
 use Rattle.std.proofs.Common.{take, ℤ, w32, w64, SFits, to_z, of_z, rules}
 use Rattle.std.proofs.lemmas.Int.{to_z-of_z}
-use Rattle.session.specs.Outcomes.{Four, four, held_for}
+use Rattle.session.specs.Lending.{four_held}
+use Rattle.session.specs.Outcomes.{Four, held_for}
 use Rattle.session.proofs.Settles.{SettlingAt, posts_counted, settling_as}
 use Rattle.session.proofs.counted.settle_counted.Goals as goal
 
@@ -13,7 +14,7 @@ long z = to_z w64 (of_z w64 z)
 pub returns : goal.returns
 returns g c =
     let a = c.args in
-    let t : Four = four a.sales_one.now a.purchases_one.now a.sales_two.now a.purchases_two.now in
+    let t : Four = four_held a.blocks.now in
     let p = a.report.price_one in
     let q = a.report.price_two in
     let f = a.report.flow in

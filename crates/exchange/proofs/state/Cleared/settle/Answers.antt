@@ -1,9 +1,10 @@
 use Rattle.std.proofs.Common.{Ok, Err, refl, w64, SFits, rules}
 use Rattle.std.proofs.lemmas.Int.{to_z-of_z}
-use Rattle.session.proofs.Joins.{err_as, four_same}
+use Rattle.session.proofs.Joins.{err_as}
 use Rattle.session.specs.Causes.{settle_causes}
-use Rattle.session.specs.Outcomes.{Four, four, held_for}
-use Rattle.session.specs.Tables.{Places, blocks_of, lent, places}
+use Rattle.session.specs.Lending.{blocks_held, four_held, places_held}
+use Rattle.session.specs.Outcomes.{Four, held_for}
+use Rattle.session.specs.Tables.{Places, lent}
 use Rattle.settlement.specs.declared.settle.Settled.{Settled}
 use Rattle.exchange.specs.declared.state.Idle.{Idle}
 use Rattle.exchange.proofs.CallSteps.{cleared_settle, with_step}
@@ -18,26 +19,22 @@ returns-in-Ok g c =
     let j = c.in-Ok.settled.total_residue in
     let fits-income : SFits w64 i = search rules in
     let fits-residue : SFits w64 j = search rules in
-    let before : Places = places a.sales_one.now a.purchases_one.now a.sales_two.now a.purchases_two.now a.accounts.now a.entries.now in
-    let later : Places = places l.sales_one l.purchases_one l.sales_two l.purchases_two l.accounts l.entries in
-    let same = four_same _ _ _ _ _ _ _ _ k.sales_one k.purchases_one k.sales_two k.purchases_two in
-    let p = with_step (λ why after. cleared_settle g.P.PriceRule.meaning g.S.SharingRule.meaning g.met.S.SharingRule.lawful g.met.P.PriceRule.within a.self before later (Ok _) why after same) k.why (record {
+    let before : Places = places_held a.blocks.now a.accounts.now a.entries.now in
+    let later : Places = places_held a.blocks.now l.accounts l.entries in
+    with_step (λ why after. cleared_settle g.P.PriceRule.meaning g.S.SharingRule.meaning g.met.S.SharingRule.lawful g.met.P.PriceRule.within a.self before later (Ok _) why after refl) k.why (record {
       engine = refl;
       ledger = simp to_z-of_z at c.with_totals-ledger.ensures;
       posted = k.after;
-    }) in
-    record { why = p.why; after = p.after; sales_one = k.sales_one; purchases_one = k.purchases_one; sales_two = k.sales_two; purchases_two = k.purchases_two; step = p.step }
+    })
 
 pub returns-in-Err : goal.returns-in-Err
 returns-in-Err g c =
     let a = c.args in
     let k = c.in-Err.ensures in
     let l = c.settle_session.new in
-    let t : Four = four a.sales_one.now a.purchases_one.now a.sales_two.now a.purchases_two.now in
-    let before : Places = places a.sales_one.now a.purchases_one.now a.sales_two.now a.purchases_two.now a.accounts.now a.entries.now in
-    let later : Places = places l.sales_one l.purchases_one l.sales_two l.purchases_two l.accounts l.entries in
-    let same = four_same _ _ _ _ _ _ _ _ k.sales_one k.purchases_one k.sales_two k.purchases_two in
-    let causes = settle_causes (held_for a.self.session a.self.report t) (blocks_of a.self.session a.sales_one.now a.purchases_one.now a.sales_two.now a.purchases_two.now) (lent a.accounts.now a.self.ledger.accounts) a.entries.now a.self.ledger.income a.self.ledger.residue in
-    let p = with_step (λ why after. cleared_settle g.P.PriceRule.meaning g.S.SharingRule.meaning g.met.S.SharingRule.lawful g.met.P.PriceRule.within a.self before later (Err _) why after same)
-    (err_as Settled (Idle g.row.P.Denot g.row.S.Denot × Settled) causes c.in-Err.why k.why) (refl, k.after.0, k.after.1) in
-    record { why = p.why; after = p.after; sales_one = k.sales_one; purchases_one = k.purchases_one; sales_two = k.sales_two; purchases_two = k.purchases_two; step = p.step }
+    let t : Four = four_held a.blocks.now in
+    let before : Places = places_held a.blocks.now a.accounts.now a.entries.now in
+    let later : Places = places_held a.blocks.now l.accounts l.entries in
+    let causes = settle_causes (held_for a.self.session a.self.report t) (blocks_held a.self.session a.blocks.now) (lent a.accounts.now a.self.ledger.accounts) a.entries.now a.self.ledger.income a.self.ledger.residue in
+    with_step (λ why after. cleared_settle g.P.PriceRule.meaning g.S.SharingRule.meaning g.met.S.SharingRule.lawful g.met.P.PriceRule.within a.self before later (Err _) why after refl)
+    (err_as Settled (Idle g.row.P.Denot g.row.S.Denot × Settled) causes c.in-Err.why k.why) (refl, k.after.0, k.after.1)

@@ -1,7 +1,7 @@
 use Rattle.std.proofs.Common.{Ok, Err, refl, rules}
 use Rattle.session.specs.Causes.{withdraw_causes}
-use Rattle.session.specs.Outcomes.{four}
-use Rattle.session.specs.Tables.{Places, blocks_of, zone_at}
+use Rattle.session.specs.Lending.{blocks_held, four_held}
+use Rattle.session.specs.Tables.{Places, zone_at}
 use Rattle.session.specs.declared.session.Session.{Session}
 use Rattle.session.proofs.Joins.{err_as, four_same, ok_as}
 use Rattle.exchange.specs.Applying.{with_blocks}
@@ -13,20 +13,20 @@ pub returns-in-Ok : goal.returns-in-Ok
 returns-in-Ok g c =
     let a = c.args in
     let k = c.in-Ok.ensures in
-    let l = c.withdraw.new in
-    let before : Places → Places = λ t. with_blocks t (four a.sales_one.now a.purchases_one.now a.sales_two.now a.purchases_two.now) in
-    let later : Places → Places = λ t. with_blocks t (four l.sales_one l.purchases_one l.sales_two l.purchases_two) in
-    with_step (λ why after. λ t. open_withdraw g.P.PriceRule.meaning g.S.SharingRule.meaning g.met.S.SharingRule.lawful g.met.P.PriceRule.within a.zone a.side a.key a.self (before t) (later t) (Ok _) why after refl refl)
-    (ok_as (withdraw_causes (zone_at a.zone) a.side a.key (blocks_of a.self.session a.sales_one.now a.purchases_one.now a.sales_two.now a.purchases_two.now)) c.in-Ok.session _ k.why)
-    (search rules)
+    let before : Places → Places = λ t. with_blocks t (four_held a.blocks.now) in
+    let later : Places → Places = λ t. with_blocks t (four_held c.withdraw.new.blocks) in
+    let p = with_step (λ why after. λ t. open_withdraw g.P.PriceRule.meaning g.S.SharingRule.meaning g.met.S.SharingRule.lawful g.met.P.PriceRule.within a.zone a.side a.key a.self (before t) (later t) (Ok _) why after refl refl)
+    (ok_as (withdraw_causes (zone_at a.zone) a.side a.key (blocks_held a.self.session a.blocks.now)) c.in-Ok.session _ k.why)
+    (search rules) in
+    record { why = p.why; after = p.after; lent = k.lent; step = p.step }
 
 pub returns-in-Err : goal.returns-in-Err
 returns-in-Err g c =
     let a = c.args in
     let k = c.in-Err.ensures in
-    let l = c.withdraw.new in
-    let before : Places → Places = λ t. with_blocks t (four a.sales_one.now a.purchases_one.now a.sales_two.now a.purchases_two.now) in
-    let later : Places → Places = λ t. with_blocks t (four l.sales_one l.purchases_one l.sales_two l.purchases_two) in
-    with_step (λ why after. λ t. open_withdraw g.P.PriceRule.meaning g.S.SharingRule.meaning g.met.S.SharingRule.lawful g.met.P.PriceRule.within a.zone a.side a.key a.self (before t) (later t) (Err _) why after refl refl)
-    (err_as Session (Open g.row.P.Denot g.row.S.Denot) (withdraw_causes (zone_at a.zone) a.side a.key (blocks_of a.self.session a.sales_one.now a.purchases_one.now a.sales_two.now a.purchases_two.now)) c.in-Err.why k.why)
-    (search (rules, four_same))
+    let before : Places → Places = λ t. with_blocks t (four_held a.blocks.now) in
+    let later : Places → Places = λ t. with_blocks t (four_held c.withdraw.new.blocks) in
+    let p = with_step (λ why after. λ t. open_withdraw g.P.PriceRule.meaning g.S.SharingRule.meaning g.met.S.SharingRule.lawful g.met.P.PriceRule.within a.zone a.side a.key a.self (before t) (later t) (Err _) why after refl refl)
+    (err_as Session (Open g.row.P.Denot g.row.S.Denot) (withdraw_causes (zone_at a.zone) a.side a.key (blocks_held a.self.session a.blocks.now)) c.in-Err.why k.why)
+    (search (rules, four_same)) in
+    record { why = p.why; after = p.after; lent = k.lent; step = p.step }

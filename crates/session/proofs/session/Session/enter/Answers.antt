@@ -1,40 +1,36 @@
-use Rattle.std.proofs.Common.{Ok, Err, rules}
+use Rattle.std.proofs.Common.{Ok, Err}
+use Rattle.std.proofs.lemmas.Result.{err_from_is_err_and}
+use Rattle.market.specs.declared.zone.Zone.TheVariants.{One, Two}
 use Rattle.session.specs.Causes.{enter_causes}
-use Rattle.session.specs.Tables.{blocks_of, entered_in, lent, zone_at}
+use Rattle.session.specs.Lending.{blocks_held, seen}
+use Rattle.session.specs.Tables.{entered_in, zone_at}
 use Rattle.session.proofs.Joins.{in_none, in_one, in_two}
+use Rattle.session.proofs.Zones.{zone_found, zone_missing}
 use Rattle.session.proofs.session.Session.enter.Goals as goal
 
-pub returns-in-Ok : goal.returns-in-Ok
-returns-in-Ok c =
+pub returns-in_err-one-in-Ok-One : goal.returns-in_err-one-in-Ok-One
+returns-in_err-one-in-Ok-One c =
     let a = c.args in
-    let p = in_one (λ z. enter_causes z a.side a.bid (blocks_of a.self a.sales_one.now a.purchases_one.now a.sales_two.now a.purchases_two.now) (lent a.accounts.now a.owners)) (entered_in a.side a.bid) a.self a.sales_one.now a.purchases_one.now a.sales_two.now a.purchases_two.now (zone_at a.zone) (search rules)
-    (Ok c.in-Ok.one) c.enter.new.sales c.enter.new.purchases c.in-Ok.ensures.why c.in-Ok.ensures.after in
-    record { why = p.why; after = p.after; accounts = c.in-Ok.ensures.accounts }
+    let d = err_from_is_err_and c.from_residual.result c.from_residual.ensures.1 in
+    rw (d.1, d.2) (in_one (λ z. enter_causes z a.side a.bid (blocks_held a.self a.blocks.now) (seen a.accounts)) (entered_in a.side a.bid) a.self a.blocks.now (zone_at a.zone) (zone_found a.zone _ One c.in-Ok-One.field-0-is c.in-Ok-One.ensures) (Err c.in_err-one-in-Ok-One.field-0.0) c.enter.new.places c.in_err-one-in-Ok-One.ensures)
+
+pub returns-in_ok-one-in-Ok-One : goal.returns-in_ok-one-in-Ok-One
+returns-in_ok-one-in-Ok-One c =
+    let a = c.args in
+    in_one (λ z. enter_causes z a.side a.bid (blocks_held a.self a.blocks.now) (seen a.accounts)) (entered_in a.side a.bid) a.self a.blocks.now (zone_at a.zone) (zone_found a.zone _ One c.in-Ok-One.field-0-is c.in-Ok-One.ensures) (Ok c.in_ok-one-in-Ok-One.one) c.enter.new.places c.in_ok-one-in-Ok-One.ensures
+
+pub returns-in_err-two-in-Ok-Two : goal.returns-in_err-two-in-Ok-Two
+returns-in_err-two-in-Ok-Two c =
+    let a = c.args in
+    let d = err_from_is_err_and c.from_residual-in_err-two-in-Ok-Two.result c.from_residual-in_err-two-in-Ok-Two.ensures.1 in
+    rw (d.1, d.2) (in_two (λ z. enter_causes z a.side a.bid (blocks_held a.self a.blocks.now) (seen a.accounts)) (entered_in a.side a.bid) a.self a.blocks.now (zone_at a.zone) (zone_found a.zone _ Two c.in-Ok-Two.field-0-is c.in-Ok-Two.ensures) (Err c.in_err-two-in-Ok-Two.field-0.0) c.enter-in-Ok-Two.new.places c.in_err-two-in-Ok-Two.ensures)
+
+pub returns-in_ok-two-in-Ok-Two : goal.returns-in_ok-two-in-Ok-Two
+returns-in_ok-two-in-Ok-Two c =
+    let a = c.args in
+    in_two (λ z. enter_causes z a.side a.bid (blocks_held a.self a.blocks.now) (seen a.accounts)) (entered_in a.side a.bid) a.self a.blocks.now (zone_at a.zone) (zone_found a.zone _ Two c.in-Ok-Two.field-0-is c.in-Ok-Two.ensures) (Ok c.in_ok-two-in-Ok-Two.two) c.enter-in-Ok-Two.new.places c.in_ok-two-in-Ok-Two.ensures
 
 pub returns-in-Err : goal.returns-in-Err
 returns-in-Err c =
     let a = c.args in
-    let p = in_one (λ z. enter_causes z a.side a.bid (blocks_of a.self a.sales_one.now a.purchases_one.now a.sales_two.now a.purchases_two.now) (lent a.accounts.now a.owners)) (entered_in a.side a.bid) a.self a.sales_one.now a.purchases_one.now a.sales_two.now a.purchases_two.now (zone_at a.zone) (search rules)
-    (Err c.in-Err.why) c.enter.new.sales c.enter.new.purchases c.in-Err.ensures.why c.in-Err.ensures.after in
-    record { why = p.why; after = p.after; accounts = c.in-Err.ensures.accounts }
-
-pub returns-in-Ok-enter : goal.returns-in-Ok-enter
-returns-in-Ok-enter c =
-    let a = c.args in
-    let p = in_two (λ z. enter_causes z a.side a.bid (blocks_of a.self a.sales_one.now a.purchases_one.now a.sales_two.now a.purchases_two.now) (lent a.accounts.now a.owners)) (entered_in a.side a.bid) a.self a.sales_one.now a.purchases_one.now a.sales_two.now a.purchases_two.now (zone_at a.zone) (search rules)
-    (Ok c.in-Ok-enter.two) c.enter-in-Some-Two.new.sales c.enter-in-Some-Two.new.purchases c.in-Ok-enter.ensures.why c.in-Ok-enter.ensures.after in
-    record { why = p.why; after = p.after; accounts = c.in-Ok-enter.ensures.accounts }
-
-pub returns-in-Err-enter : goal.returns-in-Err-enter
-returns-in-Err-enter c =
-    let a = c.args in
-    let p = in_two (λ z. enter_causes z a.side a.bid (blocks_of a.self a.sales_one.now a.purchases_one.now a.sales_two.now a.purchases_two.now) (lent a.accounts.now a.owners)) (entered_in a.side a.bid) a.self a.sales_one.now a.purchases_one.now a.sales_two.now a.purchases_two.now (zone_at a.zone) (search rules)
-    (Err c.in-Err-enter.why) c.enter-in-Some-Two.new.sales c.enter-in-Some-Two.new.purchases c.in-Err-enter.ensures.why c.in-Err-enter.ensures.after in
-    record { why = p.why; after = p.after; accounts = c.in-Err-enter.ensures.accounts }
-
-pub returns-in-None : goal.returns-in-None
-returns-in-None c =
-    let a = c.args in
-    let p = in_none (λ z. enter_causes z a.side a.bid (blocks_of a.self a.sales_one.now a.purchases_one.now a.sales_two.now a.purchases_two.now) (lent a.accounts.now a.owners)) (entered_in a.side a.bid) a.self a.sales_one.now a.purchases_one.now a.sales_two.now a.purchases_two.now (zone_at a.zone) c.in-None.ensures
-    c.wrong_zone.result c.wrong_zone.ensures.why in
-    record { why = p.why; after = p.after; accounts = c.wrong_zone.ensures.accounts }
+    in_none (λ z. enter_causes z a.side a.bid (blocks_held a.self a.blocks.now) (seen a.accounts)) (entered_in a.side a.bid) a.self a.blocks.now (zone_at a.zone) (zone_missing a.zone c.in-Err.ensures.1) c.wrong_zone.result c.wrong_zone.ensures

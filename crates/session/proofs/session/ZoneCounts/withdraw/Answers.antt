@@ -1,29 +1,29 @@
 use Rattle.std.proofs.Common.{Ok, Err, refl}
+use Rattle.std.proofs.lemmas.Result.{err_from_is_err_and}
 use Rattle.session.specs.Causes.{side_withdraw_causes}
-use Rattle.session.specs.Tables.{lent, purchase_kind, sale_kind, taken_out, withdrawn_in, zone_tables}
+use Rattle.session.specs.Lending.{zone_held}
+use Rattle.session.specs.Tables.{withdrawn_in, lent, purchase_kind, sale_kind, taken_out}
 use Rattle.session.proofs.Joins.{in_purchases, in_sales}
 use Rattle.session.proofs.session.ZoneCounts.withdraw.Goals as goal
 
-pub returns-in-Ok : goal.returns-in-Ok
-returns-in-Ok c =
+pub returns-in_err-sales-in-Sale : goal.returns-in_err-sales-in-Sale
+returns-in_err-sales-in-Sale c =
     let a = c.args in
-    in_sales (λ s. side_withdraw_causes s a.key (zone_tables a.self a.sales.now a.purchases.now)) (λ s. withdrawn_in s a.key) a.self a.sales.now a.purchases.now a.side c.in-Sale.is
-    (taken_out sale_kind a.key (lent a.sales.now a.self.sales)) refl (Ok c.in-Ok.count) c.withdraw_row.new.rows c.in-Ok.ensures.why c.in-Ok.ensures.after
+    let d = err_from_is_err_and c.from_residual.result c.from_residual.ensures.1 in
+    rw (d.1, d.2) (in_sales (λ s. side_withdraw_causes s a.key (zone_held a.self a.places.now)) (λ s. withdrawn_in s a.key) a.self a.places.now a.side c.in-Sale.is (taken_out sale_kind a.key (lent a.places.now.sales.now a.self.sales)) refl (Err c.in_err-sales-in-Sale.field-0.0) c.withdraw_row.new.rows c.in_err-sales-in-Sale.ensures)
 
-pub returns-in-Err : goal.returns-in-Err
-returns-in-Err c =
+pub returns-in_ok-sales-in-Sale : goal.returns-in_ok-sales-in-Sale
+returns-in_ok-sales-in-Sale c =
     let a = c.args in
-    in_sales (λ s. side_withdraw_causes s a.key (zone_tables a.self a.sales.now a.purchases.now)) (λ s. withdrawn_in s a.key) a.self a.sales.now a.purchases.now a.side c.in-Sale.is
-    (taken_out sale_kind a.key (lent a.sales.now a.self.sales)) refl (Err c.in-Err.why) c.withdraw_row.new.rows c.in-Err.ensures.why c.in-Err.ensures.after
+    in_sales (λ s. side_withdraw_causes s a.key (zone_held a.self a.places.now)) (λ s. withdrawn_in s a.key) a.self a.places.now a.side c.in-Sale.is (taken_out sale_kind a.key (lent a.places.now.sales.now a.self.sales)) refl (Ok c.in_ok-sales-in-Sale.sales) c.withdraw_row.new.rows c.in_ok-sales-in-Sale.ensures
 
-pub returns-in-Ok-withdraw_row : goal.returns-in-Ok-withdraw_row
-returns-in-Ok-withdraw_row c =
+pub returns-in_err-purchases-in-Purchase : goal.returns-in_err-purchases-in-Purchase
+returns-in_err-purchases-in-Purchase c =
     let a = c.args in
-    in_purchases (λ s. side_withdraw_causes s a.key (zone_tables a.self a.sales.now a.purchases.now)) (λ s. withdrawn_in s a.key) a.self a.sales.now a.purchases.now a.side c.in-Purchase.is
-    (taken_out purchase_kind a.key (lent a.purchases.now a.self.purchases)) refl (Ok c.in-Ok-withdraw_row.count) c.withdraw_row-in-Purchase.new.rows c.in-Ok-withdraw_row.ensures.why c.in-Ok-withdraw_row.ensures.after
+    let d = err_from_is_err_and c.from_residual-in_err-purchases-in-Purchase.result c.from_residual-in_err-purchases-in-Purchase.ensures.1 in
+    rw (d.1, d.2) (in_purchases (λ s. side_withdraw_causes s a.key (zone_held a.self a.places.now)) (λ s. withdrawn_in s a.key) a.self a.places.now a.side c.in-Purchase.is (taken_out purchase_kind a.key (lent a.places.now.purchases.now a.self.purchases)) refl (Err c.in_err-purchases-in-Purchase.field-0.0) c.withdraw_row-in-Purchase.new.rows c.in_err-purchases-in-Purchase.ensures)
 
-pub returns-in-Err-withdraw_row : goal.returns-in-Err-withdraw_row
-returns-in-Err-withdraw_row c =
+pub returns-in_ok-purchases-in-Purchase : goal.returns-in_ok-purchases-in-Purchase
+returns-in_ok-purchases-in-Purchase c =
     let a = c.args in
-    in_purchases (λ s. side_withdraw_causes s a.key (zone_tables a.self a.sales.now a.purchases.now)) (λ s. withdrawn_in s a.key) a.self a.sales.now a.purchases.now a.side c.in-Purchase.is
-    (taken_out purchase_kind a.key (lent a.purchases.now a.self.purchases)) refl (Err c.in-Err-withdraw_row.why) c.withdraw_row-in-Purchase.new.rows c.in-Err-withdraw_row.ensures.why c.in-Err-withdraw_row.ensures.after
+    in_purchases (λ s. side_withdraw_causes s a.key (zone_held a.self a.places.now)) (λ s. withdrawn_in s a.key) a.self a.places.now a.side c.in-Purchase.is (taken_out purchase_kind a.key (lent a.places.now.purchases.now a.self.purchases)) refl (Ok c.in_ok-purchases-in-Purchase.purchases) c.withdraw_row-in-Purchase.new.rows c.in_ok-purchases-in-Purchase.ensures

@@ -1,0 +1,42 @@
+-- What is lent to a call, as lists. To believe: what a table holds is what its reference points to, and a look at a table shows it; two
+-- such values lend the same places if each of their references is the same.
+use Rattle.std.specs.Prelude.{◌≡◌, List}
+use Rattle.market.specs.Places.{SamePlaces}
+use Rattle.market.specs.declared.account.Account.{Account}
+use Rattle.market.specs.declared.places.BlockPlaces.{BlockPlaces}
+use Rattle.market.specs.declared.places.ZonePlaces.{ZonePlaces}
+use Rattle.settlement.specs.declared.entry.Entry.{Entry}
+use Rattle.table.specs.declared.table.Table.{Table}
+use Rattle.table.specs.declared.view.View.{View}
+use Rattle.session.specs.Outcomes.{Four, four}
+use Rattle.session.specs.Tables.{Blocks, Counted, Places, ZoneTables, blocks_of, lent, places, zone_tables}
+use Rattle.session.specs.declared.lent.Lent.{Lent}
+use Rattle.session.specs.declared.session.Session.{Session}
+use Rattle.session.specs.declared.session.ZoneCounts.{ZoneCounts}
+
+-- a table that is looked at, and one that is lent
+abbrev pub seen : {X : Type 0} → View X → Counted X
+seen v = lent v.rows.now v.count
+
+abbrev pub held : {X : Type 0} → Table X → Counted X
+held t = lent t.rows.now t.count
+
+-- the two tables of a zone, and the four of both
+abbrev pub zone_held : ZoneCounts → ZonePlaces → ZoneTables
+zone_held n t = zone_tables n t.sales.now t.purchases.now
+
+abbrev pub blocks_held : Session → BlockPlaces → Blocks
+blocks_held s t = blocks_of s t.one.sales.now t.one.purchases.now t.two.sales.now t.two.purchases.now
+
+abbrev pub four_held : BlockPlaces → Four
+four_held t = four t.one.sales.now t.one.purchases.now t.two.sales.now t.two.purchases.now
+
+-- everything that is lent
+abbrev pub places_held : BlockPlaces → List Account → List Entry → Places
+places_held t xs es = places t.one.sales.now t.one.purchases.now t.two.sales.now t.two.purchases.now xs es
+
+abbrev pub held_in : Lent → Places
+held_in l = places_held l.blocks l.accounts.now l.entries.now
+
+abbrev pub SameLent : Lent → Lent → Type 0
+SameLent a b = SamePlaces a.blocks b.blocks × (b.accounts.ghost_name ≡ a.accounts.ghost_name) × (b.entries.ghost_name ≡ a.entries.ghost_name)
