@@ -20,6 +20,7 @@ use rules::sharing::SharingRule;
 use settlement::entry::Entry;
 use settlement::session::{ClearedSession, ClearedZone};
 use settlement::settle::Settled;
+use settlement::totals::Totals;
 
 // Writes what is matched of each counted block, and reports prices, flow and surplus.
 fn clear_counted<P: PriceRule, S: SharingRule>(
@@ -88,8 +89,10 @@ fn settle_counted<'a, P, S>(
         cleared,
         &mut accounts[..ledger.accounts],
         entries,
-        ledger.income,
-        ledger.residue,
+        Totals {
+            income: ledger.income,
+            residue: ledger.residue,
+        },
     )
 }
 

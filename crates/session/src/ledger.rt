@@ -10,6 +10,7 @@ use market::account::Account;
 use market::capacities::Capacities;
 use market::limits::agent_within;
 use market::refusal::Refusal;
+use settlement::totals::Totals;
 
 #[derive(Clone, Copy)]
 pub struct Ledger {
@@ -87,14 +88,13 @@ impl Ledger {
     }
 
     // The ledger with another income and another residue.
-    pub fn with_totals(self, income: i64, residue: i64) -> Ledger
-        ensures { result ≡ record { accounts = self.accounts; last_session = self.last_session; income = income; residue = residue } }
+    pub fn with_totals(self, totals: Totals) -> Ledger
+        ensures { result ≡ record { accounts = self.accounts; last_session = self.last_session; income = totals.income; residue = totals.residue } }
     {
         Ledger {
-            accounts: self.accounts,
-            last_session: self.last_session,
-            income,
-            residue,
+            income: totals.income,
+            residue: totals.residue,
+            ..self
         }
     }
 }
