@@ -31,6 +31,7 @@ use session::report::Report;
 use session::session::Session;
 use settlement::entry::Entry;
 use settlement::settle::Settled;
+use settlement::totals::Totals;
 use table::view::View;
 
 mod wind_up;
@@ -329,7 +330,12 @@ impl<P: PriceRule, S: SharingRule> Cleared<P, S> {
                     session: _,
                     report: _,
                 } = self;
-                let ledger = ledger.with_totals(settled.total_income, settled.total_residue);
+                let Settled {
+                    total_income: income,
+                    total_residue: residue,
+                    ..
+                } = settled;
+                let ledger = ledger.with_totals(Totals { income, residue });
                 Ok((Idle { engine, ledger }, settled))
             }
             Err(why) => Err(Refused { state: self, why }),

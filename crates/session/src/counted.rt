@@ -21,6 +21,7 @@ use rules::sharing::SharingRule;
 use settlement::entry::Entry;
 use settlement::session::{ClearedSession, ClearedZone};
 use settlement::settle::Settled;
+use settlement::totals::Totals;
 use table::view::View;
 
 // Writes what is matched of each counted block, and reports prices, flow and surplus.
@@ -86,8 +87,10 @@ fn settle_counted<P, S>(
         cleared,
         &mut accounts[..ledger.accounts],
         entries,
-        ledger.income,
-        ledger.residue,
+        Totals {
+            income: ledger.income,
+            residue: ledger.residue,
+        },
     )
 }
 

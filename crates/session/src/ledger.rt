@@ -10,6 +10,7 @@ use market::account::Account;
 use market::capacities::Capacities;
 use market::limits::agent_within;
 use market::refusal::Refusal;
+use settlement::totals::Totals;
 use table::table::Table;
 
 #[derive(Clone, Copy)]
@@ -80,12 +81,12 @@ impl Ledger {
     }
 
     // The ledger with another income and another residue.
-    pub fn with_totals(self, income: i64, residue: i64) -> Ledger
-        ensures { result ≡ record { accounts = self.accounts; last_session = self.last_session; income = income; residue = residue } }
+    pub fn with_totals(self, totals: Totals) -> Ledger
+        ensures { result ≡ record { accounts = self.accounts; last_session = self.last_session; income = totals.income; residue = totals.residue } }
     {
         Ledger {
-            income,
-            residue,
+            income: totals.income,
+            residue: totals.residue,
             ..self
         }
     }
