@@ -147,8 +147,8 @@ impl<P: PriceRule, S: SharingRule> Open<P, S> {
         ensures step { (t : Places) → ResultStep P.PriceRule.meaning S.SharingRule.meaning (Admit agent) exchange.Open exchange.Open accepting (exchange.Open self) (with_accounts t accounts.old) result (with_accounts t accounts.new) }
     {
         match self.ledger.admit(accounts, agent) {
-            Ok(ledger) => {
-                self.ledger = ledger;
+            Ok(admitted) => {
+                self.ledger = admitted;
                 Ok(self)
             }
             Err(why) => Err(Refused { state: self, why }),

@@ -13,7 +13,7 @@ use market::refusal::Refusal;
 use settlement::totals::Totals;
 use table::table::Table;
 
-#[derive(Clone, Copy)]
+#[derive(Clone, Copy, Default)]
 pub struct Ledger {
     // How many accounts are counted.
     pub accounts: usize,
@@ -51,12 +51,7 @@ impl Ledger {
     pub fn new() -> Ledger
         ensures { result ≡ new_ledger }
     {
-        Ledger {
-            accounts: 0,
-            last_session: 0,
-            income: 0,
-            residue: 0,
-        }
+        Ledger::default()
     }
 
     // Begins a session: the ledger with its number, and its capacities.

@@ -7,13 +7,15 @@ use exchange::state::Idle;
 use lines::line::answer_line;
 use lines::printed::Printed;
 use market::account::Account;
-use market::block::{Bid, Block};
+use market::places::{BlockPlaces, ZonePlaces};
 use market::purchase::Purchase;
 use market::sale::Sale;
 use rules::price::LowEnd;
 use rules::sharing::ByPrecedence;
 use service::{Service, serve};
+use session::lent::Lent;
 use settlement::entry::Entry;
+use std::alloc::{AllocError, Global};
 use std::io;
 use std::io::{BufWriter, Write};
 
@@ -24,15 +26,50 @@ const ACCOUNT_PLACES: usize = 512;
 // One for each block that four full tables hold, and one for the congestion income.
 const ENTRY_PLACES: usize = 1_025;
 
-// The exchange, and what is lent to it at each call.
-struct Desk {
-    exchange: Exchange<LowEnd, ByPrecedence>,
+// The tables of the exchange, and its entry list.
+#[derive(Drop)]
+struct Tables {
     sales_one: Vec<Sale>,
     purchases_one: Vec<Purchase>,
     sales_two: Vec<Sale>,
     purchases_two: Vec<Purchase>,
     accounts: Vec<Account>,
     entries: Vec<Entry>,
+}
+
+impl Tables {
+    fn new(heap: Global) -> Result<Tables, AllocError> {
+        Ok(Tables {
+            sales_one: vec![in heap; Sale::default(); BLOCK_PLACES]?,
+            purchases_one: vec![in heap; Purchase::default(); BLOCK_PLACES]?,
+            sales_two: vec![in heap; Sale::default(); BLOCK_PLACES]?,
+            purchases_two: vec![in heap; Purchase::default(); BLOCK_PLACES]?,
+            accounts: vec![in heap; Account::default(); ACCOUNT_PLACES]?,
+            entries: vec![in heap; blank_entry(); ENTRY_PLACES]?,
+        })
+    }
+
+    fn lend(&mut self) -> Lent<'_> {
+        let one = ZonePlaces {
+            sales: &mut self.sales_one,
+            purchases: &mut self.purchases_one,
+        };
+        let two = ZonePlaces {
+            sales: &mut self.sales_two,
+            purchases: &mut self.purchases_two,
+        };
+        Lent {
+            blocks: BlockPlaces { one, two },
+            accounts: &mut self.accounts,
+            entries: &mut self.entries,
+        }
+    }
+}
+
+// The exchange, and what is lent to it at each call.
+struct Desk {
+    exchange: Exchange<LowEnd, ByPrecedence>,
+    tables: Tables,
 }
 
 impl Service for Desk {
@@ -42,58 +79,15 @@ impl Service for Desk {
     fn reply<W: Write>(self, out: &mut W, line: Option<&[u8]>) -> (Self, io::Result<()>) {
         let Desk {
             exchange,
-            mut sales_one,
-            mut purchases_one,
-            mut sales_two,
-            mut purchases_two,
-            mut accounts,
-            mut entries,
+            mut tables,
         } = self;
-        let (exchange, answer) = answer_line(
-            exchange,
-            &mut sales_one,
-            &mut purchases_one,
-            &mut sales_two,
-            &mut purchases_two,
-            &mut accounts,
-            &mut entries,
-            line,
-        );
+        let (exchange, answer) = answer_line(exchange, &mut tables.lend(), line);
         let printed = Printed {
             answer,
-            entries: &entries,
+            entries: &tables.entries,
         };
         let done = write!(out, "{printed}");
-        (
-            Desk {
-                exchange,
-                sales_one,
-                purchases_one,
-                sales_two,
-                purchases_two,
-                accounts,
-                entries,
-            },
-            done,
-        )
-    }
-}
-
-fn blank_block() -> Block {
-    Block::unmatched(Bid {
-        agent: 0,
-        unit: 0,
-        number: 0,
-        stamp: 0,
-        price: 0,
-        volume: 0,
-    })
-}
-
-fn blank_account() -> Account {
-    Account {
-        agent: 0,
-        position: 0,
+        (Desk { exchange, tables }, done)
     }
 }
 
@@ -123,33 +117,14 @@ fn leave(exchange: Exchange<LowEnd, ByPrecedence>) {
 
 fn main(rt: HostRuntime) -> anyhow::Result<()> {
     let heap = rt.alloc();
-    let block = blank_block();
-    let sales_one = vec![in heap; Sale { block }; BLOCK_PLACES]?;
-    let purchases_one = vec![in heap; Purchase { block }; BLOCK_PLACES]?;
-    let sales_two = vec![in heap; Sale { block }; BLOCK_PLACES]?;
-    let purchases_two = vec![in heap; Purchase { block }; BLOCK_PLACES]?;
-    let accounts = vec![in heap; blank_account(); ACCOUNT_PLACES]?;
-    let entries = vec![in heap; blank_entry(); ENTRY_PLACES]?;
     let mut input = rt.stdin();
     let mut out = BufWriter::new(heap, rt.stdout())?;
-    let desk = Desk {
-        exchange: new_exchange(),
-        sales_one,
-        purchases_one,
-        sales_two,
-        purchases_two,
-        accounts,
-        entries,
-    };
-    let (desk, done) = serve(desk, &mut input, &mut out);
+    let tables = Tables::new(heap)?;
+    let exchange = new_exchange();
+    let (desk, done) = serve(Desk { exchange, tables }, &mut input, &mut out);
     let Desk {
         exchange,
-        sales_one: _,
-        purchases_one: _,
-        sales_two: _,
-        purchases_two: _,
-        accounts: _,
-        entries: _,
+        tables: _,
     } = desk;
     leave(exchange);
     done?;
