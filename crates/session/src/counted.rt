@@ -14,7 +14,7 @@ use crate::report::Report;
 use crate::session::Session;
 use auction::engine::Engine;
 use market::account::Account;
-use market::places::BlockPlaces;
+use market::places::{BlockPlaces, ZonePlaces};
 use market::refusal::Refusal;
 use rules::price::PriceRule;
 use rules::sharing::SharingRule;
@@ -37,14 +37,17 @@ fn clear_counted<P: PriceRule, S: SharingRule>(
     ensures lent { SamePlaces blocks.old blocks.new }
 {
     let BlockPlaces { one, two } = blocks;
-    let clearing = engine.clear(
-        &mut one.sales[..session.one.sales],
-        &mut one.purchases[..session.one.purchases],
-        &mut two.sales[..session.two.sales],
-        &mut two.purchases[..session.two.purchases],
-        session.capacities.forward(),
-        session.capacities.backward(),
-    );
+    let mut counted = BlockPlaces {
+        one: ZonePlaces {
+            sales: &mut one.sales[..session.one.sales],
+            purchases: &mut one.purchases[..session.one.purchases],
+        },
+        two: ZonePlaces {
+            sales: &mut two.sales[..session.two.sales],
+            purchases: &mut two.purchases[..session.two.purchases],
+        },
+    };
+    let clearing = engine.clear(&mut counted, session.capacities);
     Report {
         price_one: clearing.price_one,
         price_two: clearing.price_two,
