@@ -74,11 +74,7 @@ fn answer<W: Write>(out: &mut W, answer: Result<(), Refusal>) -> io::Result<()> 
     writeln!(out, "{answer}")
 }
 
-fn show_side<W: Write, R: BlockRow>(
-    out: &mut W,
-    zone: Zone,
-    table: &Table<R>,
-) -> io::Result<()> {
+fn show_side<W: Write, R: BlockRow>(out: &mut W, zone: Zone, table: &Table<R>) -> io::Result<()> {
     let side = R::side();
     for row in table.rows.iter().take(table.count) {
         let Block { bid, matched } = row.block();

@@ -33,11 +33,7 @@ impl<'a> Service for Desk<'a> {
     }
 }
 
-fn show_side<W: Write, R: BlockRow>(
-    out: &mut W,
-    zone: Zone,
-    table: &Table<R>,
-) -> io::Result<()> {
+fn show_side<W: Write, R: BlockRow>(out: &mut W, zone: Zone, table: &Table<R>) -> io::Result<()> {
     let side = R::side();
     for row in table.rows.iter().take(table.count) {
         let bid = row.block().bid;
