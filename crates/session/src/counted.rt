@@ -40,8 +40,7 @@ fn clear_counted<P: PriceRule, S: SharingRule>(
         &mut purchases_one[..session.one.purchases],
         &mut sales_two[..session.two.sales],
         &mut purchases_two[..session.two.purchases],
-        session.capacities.forward(),
-        session.capacities.backward(),
+        session.capacities,
     );
     Report {
         price_one: clearing.price_one,
