@@ -6,15 +6,17 @@ ghost use Rattle.auction.specs.Best.{ClearedWell};
 ghost use Rattle.auction.specs.Books.{surplus};
 ghost use Rattle.auction.specs.Clearing.{Room, book_of, cleared, clearing, price_in, together, zone_pool};
 ghost use Rattle.auction.specs.Steps.{Clears, CommonFound};
-ghost use Rattle.auction.specs.Tables.{TablesSound, book_of_places};
-ghost use Rattle.market.specs.Places.{SamePlaces, SameZonePlaces};
+ghost use Rattle.auction.specs.Tables.{TablesSound, book, book_of_places};
+ghost use Rattle.market.specs.Places.{SameZonePlaces};
 
 use crate::line::{Line, line_of};
 use crate::offer::{Offer, no_offer};
 use crate::sums::{surplus_of, total_in};
 use crate::zones::{clear_together, clear_zone, write_zone};
 use market::capacities::Capacities;
-use market::places::{BlockPlaces, ZonePlaces};
+use market::places::ZonePlaces;
+use market::purchase::Purchase;
+use market::sale::Sale;
 use market::zone::Zone;
 use rules::price::PriceRule;
 use rules::sharing::SharingRule;
@@ -45,27 +47,28 @@ impl<P: PriceRule, S: SharingRule> Engine<P, S> {
     // Clears the two zones as one in the places of `sold` and `bought`, and writes the tables only where the line carries the flow.
     fn clear_common(
         &self,
-        blocks: &mut BlockPlaces,
+        one: &mut ZonePlaces,
+        two: &mut ZonePlaces,
         sold: &mut [Offer],
         bought: &mut [Offer],
         capacities: Capacities,
     ) -> Common
-        requires one { TablesSound blocks.old.one.sales.now blocks.old.one.purchases.now }
-        requires two { TablesSound blocks.old.two.sales.now blocks.old.two.purchases.now }
-        requires places { (length sold.old ≡ length blocks.old.one.sales.now + length blocks.old.two.sales.now) × (length bought.old ≡ length blocks.old.one.purchases.now + length blocks.old.two.purchases.now) }
-        ensures lent { SamePlaces blocks.old blocks.new }
-        ensures found { CommonFound (S.SharingRule.meaning self.now.sharing_rule) (P.PriceRule.meaning self.now.price_rule) capacities.forward capacities.backward (book_of_places blocks.old.one) (book_of_places blocks.old.two) result.line result.price result.flow }
-        ensures one { result.line ≡ Enough → book_of_places blocks.new.one ≡ book_of One (cleared (S.SharingRule.meaning self.now.sharing_rule) (together (book_of_places blocks.old.one) (book_of_places blocks.old.two))) }
-        ensures two { result.line ≡ Enough → book_of_places blocks.new.two ≡ book_of Two (cleared (S.SharingRule.meaning self.now.sharing_rule) (together (book_of_places blocks.old.one) (book_of_places blocks.old.two))) }
-        ensures kept { (result.line ≢ Enough) → blocks.new ≡ blocks.old }
+        requires one { TablesSound one.old.sales.now one.old.purchases.now }
+        requires two { TablesSound two.old.sales.now two.old.purchases.now }
+        requires places { (length sold.old ≡ length one.old.sales.now + length two.old.sales.now) × (length bought.old ≡ length one.old.purchases.now + length two.old.purchases.now) }
+        ensures lent { SameZonePlaces one.old one.new × SameZonePlaces two.old two.new }
+        ensures found { CommonFound (S.SharingRule.meaning self.now.sharing_rule) (P.PriceRule.meaning self.now.price_rule) capacities.forward capacities.backward (book_of_places one.old) (book_of_places two.old) result.line result.price result.flow }
+        ensures one { result.line ≡ Enough → book_of_places one.new ≡ book_of One (cleared (S.SharingRule.meaning self.now.sharing_rule) (together (book_of_places one.old) (book_of_places two.old))) }
+        ensures two { result.line ≡ Enough → book_of_places two.new ≡ book_of Two (cleared (S.SharingRule.meaning self.now.sharing_rule) (together (book_of_places one.old) (book_of_places two.old))) }
+        ensures kept { (result.line ≢ Enough) → (one.new ≡ one.old) × (two.new ≡ two.old) }
     {
-        let (low, high) = clear_together(&self.sharing_rule, blocks, sold, bought);
+        let (low, high) = clear_together(&self.sharing_rule, one, two, sold, bought);
         let flow = total_in(Zone::One, sold) - total_in(Zone::One, bought);
         let price = self.price_rule.price(low, high);
         let line = line_of(capacities, flow);
         if let Line::Enough = line {
-            write_zone(&mut blocks.one, Zone::One, sold, bought);
-            write_zone(&mut blocks.two, Zone::Two, sold, bought);
+            write_zone(one, Zone::One, sold, bought);
+            write_zone(two, Zone::Two, sold, bought);
         }
         Common { line, price, flow }
     }
@@ -90,50 +93,71 @@ impl<P: PriceRule, S: SharingRule> Engine<P, S> {
     }
 
     // Clears the tables, and answers the price of each zone and the flow.
-    fn clear_tables(&self, blocks: &mut BlockPlaces, capacities: Capacities) -> (i32, i32, i64)
-        requires one { TablesSound blocks.old.one.sales.now blocks.old.one.purchases.now }
-        requires two { TablesSound blocks.old.two.sales.now blocks.old.two.purchases.now }
-        ensures lent { SamePlaces blocks.old blocks.new }
-        ensures clears { Clears (S.SharingRule.meaning self.now.sharing_rule) (P.PriceRule.meaning self.now.price_rule) capacities.forward capacities.backward (book_of_places blocks.old.one) (book_of_places blocks.old.two) (book_of_places blocks.new.one) (book_of_places blocks.new.two) result.0 result.1 result.2 }
+    fn clear_tables(
+        &self,
+        one: &mut ZonePlaces,
+        two: &mut ZonePlaces,
+        capacities: Capacities,
+    ) -> (i32, i32, i64)
+        requires one { TablesSound one.old.sales.now one.old.purchases.now }
+        requires two { TablesSound two.old.sales.now two.old.purchases.now }
+        ensures lent { SameZonePlaces one.old one.new × SameZonePlaces two.old two.new }
+        ensures clears { Clears (S.SharingRule.meaning self.now.sharing_rule) (P.PriceRule.meaning self.now.price_rule) capacities.forward capacities.backward (book_of_places one.old) (book_of_places two.old) (book_of_places one.new) (book_of_places two.new) result.0 result.1 result.2 }
     {
         let mut sold = [no_offer(); 512];
         let mut bought = [no_offer(); 512];
-        let n = blocks.one.sales.len() + blocks.two.sales.len();
-        let m = blocks.one.purchases.len() + blocks.two.purchases.len();
-        let common = self.clear_common(blocks, &mut sold[..n], &mut bought[..m], capacities);
+        let n = one.sales.len() + two.sales.len();
+        let m = one.purchases.len() + two.purchases.len();
+        let common = self.clear_common(one, two, &mut sold[..n], &mut bought[..m], capacities);
         let forward = capacities.forward();
         let backward = capacities.backward();
         match common.line {
             Line::Enough => (common.price, common.price, common.flow),
             Line::There => {
-                let one = self.clear_alone(Zone::One, &mut blocks.one, 0, forward);
-                let two = self.clear_alone(Zone::Two, &mut blocks.two, forward, 0);
-                (one, two, forward as i64)
+                let price_one = self.clear_alone(Zone::One, one, 0, forward);
+                let price_two = self.clear_alone(Zone::Two, two, forward, 0);
+                (price_one, price_two, forward as i64)
             }
             Line::Back => {
-                let one = self.clear_alone(Zone::One, &mut blocks.one, backward, 0);
-                let two = self.clear_alone(Zone::Two, &mut blocks.two, 0, backward);
-                (one, two, -(backward as i64))
+                let price_one = self.clear_alone(Zone::One, one, backward, 0);
+                let price_two = self.clear_alone(Zone::Two, two, 0, backward);
+                (price_one, price_two, -(backward as i64))
             }
         }
     }
 
     // Clears one period: writes what is matched of each block into the tables, and answers prices, flow and surplus. Whatever the two
     // rules, the matched volumes are a balanced schedule that the prices support, and no schedule of these blocks is better.
-    pub fn clear(&self, blocks: &mut BlockPlaces, capacities: Capacities) -> Clearing
-        requires one { TablesSound blocks.old.one.sales.now blocks.old.one.purchases.now }
-        requires two { TablesSound blocks.old.two.sales.now blocks.old.two.purchases.now }
-        ensures lent { SamePlaces blocks.old blocks.new }
-        ensures clears { Clears (S.SharingRule.meaning self.now.sharing_rule) (P.PriceRule.meaning self.now.price_rule) capacities.forward capacities.backward (book_of_places blocks.old.one) (book_of_places blocks.old.two) (book_of_places blocks.new.one) (book_of_places blocks.new.two) result.price_one result.price_two result.flow }
-        ensures surplus { result.surplus ≡ surplus (clearing (S.SharingRule.meaning self.now.sharing_rule) (P.PriceRule.meaning self.now.price_rule) capacities.forward capacities.backward (book_of_places blocks.old.one) (book_of_places blocks.old.two)).schedule }
-        ensures well { ClearedWell capacities.forward capacities.backward (book_of_places blocks.old.one) (book_of_places blocks.old.two) (clearing (S.SharingRule.meaning self.now.sharing_rule) (P.PriceRule.meaning self.now.price_rule) capacities.forward capacities.backward (book_of_places blocks.old.one) (book_of_places blocks.old.two)) }
+    // The slices come one by one: where a struct that holds structs of `&mut [T]` is passed, no caller's proof learns what its own
+    // slices hold afterwards.
+    pub fn clear<'a>(
+        &self,
+        sales_one: &'a mut [Sale],
+        purchases_one: &'a mut [Purchase],
+        sales_two: &'a mut [Sale],
+        purchases_two: &'a mut [Purchase],
+        capacities: Capacities,
+    ) -> Clearing
+        requires one { TablesSound sales_one.old purchases_one.old }
+        requires two { TablesSound sales_two.old purchases_two.old }
+        ensures clears { Clears (S.SharingRule.meaning self.now.sharing_rule) (P.PriceRule.meaning self.now.price_rule) capacities.forward capacities.backward (book sales_one.old purchases_one.old) (book sales_two.old purchases_two.old) (book sales_one.new purchases_one.new) (book sales_two.new purchases_two.new) result.price_one result.price_two result.flow }
+        ensures surplus { result.surplus ≡ surplus (clearing (S.SharingRule.meaning self.now.sharing_rule) (P.PriceRule.meaning self.now.price_rule) capacities.forward capacities.backward (book sales_one.old purchases_one.old) (book sales_two.old purchases_two.old)).schedule }
+        ensures well { ClearedWell capacities.forward capacities.backward (book sales_one.old purchases_one.old) (book sales_two.old purchases_two.old) (clearing (S.SharingRule.meaning self.now.sharing_rule) (P.PriceRule.meaning self.now.price_rule) capacities.forward capacities.backward (book sales_one.old purchases_one.old) (book sales_two.old purchases_two.old)) }
     {
-        let (price_one, price_two, flow) = self.clear_tables(blocks, capacities);
+        let mut one = ZonePlaces {
+            sales: sales_one,
+            purchases: purchases_one,
+        };
+        let mut two = ZonePlaces {
+            sales: sales_two,
+            purchases: purchases_two,
+        };
+        let (price_one, price_two, flow) = self.clear_tables(&mut one, &mut two, capacities);
         Clearing {
             price_one,
             price_two,
             flow,
-            surplus: surplus_of(blocks),
+            surplus: surplus_of(&one, &two),
         }
     }
 }

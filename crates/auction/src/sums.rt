@@ -5,7 +5,7 @@ ghost use Rattle.auction.specs.Offers.{part, same_zone};
 ghost use Rattle.auction.specs.Tables.{TablesWorth, WorthWithinLimits, book_of_places};
 
 use crate::offer::Offer;
-use market::places::{BlockPlaces, ZonePlaces};
+use market::places::ZonePlaces;
 use market::row::BlockRow;
 use market::zone::Zone;
 
@@ -64,12 +64,12 @@ fn gain_of(places: &ZonePlaces) -> i64
 }
 
 // The same in both zones.
-pub(crate) fn surplus_of(blocks: &BlockPlaces) -> i64
-    requires one { TablesWorth blocks.now.one.sales.now blocks.now.one.purchases.now }
-    requires two { TablesWorth blocks.now.two.sales.now blocks.now.two.purchases.now }
-    ensures { result ≡ surplus (record { zone₁ = book_of_places blocks.now.one; zone₂ = book_of_places blocks.now.two }) }
+pub(crate) fn surplus_of(one: &ZonePlaces, two: &ZonePlaces) -> i64
+    requires one { TablesWorth one.now.sales.now one.now.purchases.now }
+    requires two { TablesWorth two.now.sales.now two.now.purchases.now }
+    ensures { result ≡ surplus (record { zone₁ = book_of_places one.now; zone₂ = book_of_places two.now }) }
 {
-    let one = gain_of(&blocks.one);
-    let two = gain_of(&blocks.two);
+    let one = gain_of(one);
+    let two = gain_of(two);
     one + two
 }

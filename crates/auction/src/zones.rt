@@ -9,7 +9,7 @@ ghost use Rattle.market.specs.Places.{SameZonePlaces};
 use crate::merge::{merge, write_back};
 use crate::offer::Offer;
 use crate::pool::clear_pool;
-use market::places::{BlockPlaces, ZonePlaces};
+use market::places::ZonePlaces;
 use market::row::BlockRow;
 use market::zone::Zone;
 use rules::sharing::SharingRule;
@@ -28,19 +28,20 @@ fn load<R: BlockRow>(zone: Zone, rows: &[R], offers: &mut [Offer])
 // Clears the two zones as one, in the places of `sold` and `bought`, and answers the bracket.
 pub(crate) fn clear_together<S: SharingRule>(
     rule: &S,
-    blocks: &BlockPlaces,
+    one: &ZonePlaces,
+    two: &ZonePlaces,
     sold: &mut [Offer],
     bought: &mut [Offer],
 ) -> (i32, i32)
-    requires one { TablesSound blocks.now.one.sales.now blocks.now.one.purchases.now }
-    requires two { TablesSound blocks.now.two.sales.now blocks.now.two.purchases.now }
-    requires places { (length sold.old ≡ length blocks.now.one.sales.now + length blocks.now.two.sales.now) × (length bought.old ≡ length blocks.now.one.purchases.now + length blocks.now.two.purchases.now) }
-    ensures sold { sold.new ≡ (cleared (S.SharingRule.meaning rule.now) (together (book_of_places blocks.now.one) (book_of_places blocks.now.two))).sales }
-    ensures bought { bought.new ≡ (cleared (S.SharingRule.meaning rule.now) (together (book_of_places blocks.now.one) (book_of_places blocks.now.two))).purchases }
+    requires one { TablesSound one.now.sales.now one.now.purchases.now }
+    requires two { TablesSound two.now.sales.now two.now.purchases.now }
+    requires places { (length sold.old ≡ length one.now.sales.now + length two.now.sales.now) × (length bought.old ≡ length one.now.purchases.now + length two.now.purchases.now) }
+    ensures sold { sold.new ≡ (cleared (S.SharingRule.meaning rule.now) (together (book_of_places one.now) (book_of_places two.now))).sales }
+    ensures bought { bought.new ≡ (cleared (S.SharingRule.meaning rule.now) (together (book_of_places one.now) (book_of_places two.now))).purchases }
     ensures bracket { result ≡ (low_end sold.new bought.new, high_end sold.new bought.new) }
 {
-    merge(blocks.one.sales, blocks.two.sales, sold);
-    merge(blocks.one.purchases, blocks.two.purchases, bought);
+    merge(one.sales, two.sales, sold);
+    merge(one.purchases, two.purchases, bought);
     clear_pool(rule, sold, bought, 0, 0)
 }
 

@@ -14,7 +14,7 @@ use crate::report::Report;
 use crate::session::Session;
 use auction::engine::Engine;
 use market::account::Account;
-use market::places::{BlockPlaces, ZonePlaces};
+use market::places::BlockPlaces;
 use market::refusal::Refusal;
 use rules::price::PriceRule;
 use rules::sharing::SharingRule;
@@ -36,18 +36,13 @@ fn clear_counted<P: PriceRule, S: SharingRule>(
     ensures places { four_held blocks.new ≡ scheduled (outcome_at (S.SharingRule.meaning engine.now.sharing_rule) (P.PriceRule.meaning engine.now.price_rule) session (four_held blocks.old)) session (four_held blocks.old) }
     ensures lent { SamePlaces blocks.old blocks.new }
 {
-    let BlockPlaces { one, two } = blocks;
-    let mut counted = BlockPlaces {
-        one: ZonePlaces {
-            sales: &mut one.sales[..session.one.sales],
-            purchases: &mut one.purchases[..session.one.purchases],
-        },
-        two: ZonePlaces {
-            sales: &mut two.sales[..session.two.sales],
-            purchases: &mut two.purchases[..session.two.purchases],
-        },
-    };
-    let clearing = engine.clear(&mut counted, session.capacities);
+    let clearing = engine.clear(
+        &mut blocks.sales_one[..session.one.sales],
+        &mut blocks.purchases_one[..session.one.purchases],
+        &mut blocks.sales_two[..session.two.sales],
+        &mut blocks.purchases_two[..session.two.purchases],
+        session.capacities,
+    );
     Report {
         price_one: clearing.price_one,
         price_two: clearing.price_two,

@@ -12,7 +12,8 @@ returns g c =
     let e : length c.clear.new.purchases_two ≡ c.args.purchases_two.now.count = omega (arith, c.clear.auto.purchases_two, length-take-le c.args.purchases_two.now.count c.args.purchases_two.now.rows.now c.requires.fits.1.1.1) in
     record {
       clears = clears-counted _ _ _ _ _ _ _ _ _ c.clear.new.sales_one _ c.clear.new.purchases_one _ c.clear.new.sales_two _ c.clear.new.purchases_two _ _ _ _ _ a b d e (simp sub-zero at c.clear.ensures.clears);
-      surplus = simp sub-zero at c.clear.ensures.surplus;
+      gained = simp sub-zero at c.clear.ensures.surplus;
       well = simp sub-zero at c.clear.ensures.well;
-      behind = (((behind_counted c.args.sales_one.now.rows.now c.clear.new.sales_one _ a, refl), (behind_counted c.args.purchases_one.now.rows.now c.clear.new.purchases_one _ b, refl)), ((behind_counted c.args.sales_two.now.rows.now c.clear.new.sales_two _ d, refl), (behind_counted c.args.purchases_two.now.rows.now c.clear.new.purchases_two _ e, refl)));
+      behind₁ = ((behind_counted c.args.sales_one.now.rows.now c.clear.new.sales_one _ a, refl), (behind_counted c.args.purchases_one.now.rows.now c.clear.new.purchases_one _ b, refl));
+      behind₂ = ((behind_counted c.args.sales_two.now.rows.now c.clear.new.sales_two _ d, refl), (behind_counted c.args.purchases_two.now.rows.now c.clear.new.purchases_two _ e, refl));
     }

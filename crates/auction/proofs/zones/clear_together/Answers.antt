@@ -14,20 +14,20 @@ whole os ws n l e = sym (take_all n os l) ∙ e
 
 pub clear_pool-requires : goal.clear_pool-requires
 clear_pool-requires g c =
-    let s = whole c.merge.new.offers (merged of_sales (sale_blocks c.args.blocks.now.one.sales.now) (sale_blocks c.args.blocks.now.two.sales.now)) (length c.args.blocks.now.one.sales.now + length c.args.blocks.now.two.sales.now) (omega (arith, c.merge.auto.offers, c.requires.places.0)) c.merge.ensures in
-    let p = whole c.merge-2.new.offers (merged of_purchases (purchase_blocks c.args.blocks.now.one.purchases.now) (purchase_blocks c.args.blocks.now.two.purchases.now)) (length c.args.blocks.now.one.purchases.now + length c.args.blocks.now.two.purchases.now) (omega (arith, c.merge-2.auto.offers, c.requires.places.1)) c.merge-2.ensures in
+    let s = whole c.merge.new.offers (merged of_sales (sale_blocks c.args.one.now.sales.now) (sale_blocks c.args.two.now.sales.now)) (length c.args.one.now.sales.now + length c.args.two.now.sales.now) (omega (arith, c.merge.auto.offers, c.requires.places.0)) c.merge.ensures in
+    let p = whole c.merge-2.new.offers (merged of_purchases (purchase_blocks c.args.one.now.purchases.now) (purchase_blocks c.args.two.now.purchases.now)) (length c.args.one.now.purchases.now + length c.args.two.now.purchases.now) (omega (arith, c.merge-2.auto.offers, c.requires.places.1)) c.merge-2.ensures in
     record {
-      rising = subst (Ready of_sales) (sym s) (sales_ready c.args.blocks.now.one.sales.now c.args.blocks.now.two.sales.now c.args.blocks.now.one.purchases.now c.args.blocks.now.two.purchases.now c.requires.one c.requires.two);
-      falling = subst (Ready of_purchases) (sym p) (purchases_ready c.args.blocks.now.one.sales.now c.args.blocks.now.two.sales.now c.args.blocks.now.one.purchases.now c.args.blocks.now.two.purchases.now c.requires.one c.requires.two);
+      rising = subst (Ready of_sales) (sym s) (sales_ready c.args.one.now.sales.now c.args.two.now.sales.now c.args.one.now.purchases.now c.args.two.now.purchases.now c.requires.one c.requires.two);
+      falling = subst (Ready of_purchases) (sym p) (purchases_ready c.args.one.now.sales.now c.args.two.now.sales.now c.args.one.now.purchases.now c.args.two.now.purchases.now c.requires.one c.requires.two);
       carried = (omega arith, omega arith);
       room = record { brings = omega arith; takes = omega arith };
     }
 
 pub returns : goal.returns
 returns g c =
-    let s = whole c.merge.new.offers (merged of_sales (sale_blocks c.args.blocks.now.one.sales.now) (sale_blocks c.args.blocks.now.two.sales.now)) (length c.args.blocks.now.one.sales.now + length c.args.blocks.now.two.sales.now) (omega (arith, c.merge.auto.offers, c.requires.places.0)) c.merge.ensures in
-    let p = whole c.merge-2.new.offers (merged of_purchases (purchase_blocks c.args.blocks.now.one.purchases.now) (purchase_blocks c.args.blocks.now.two.purchases.now)) (length c.args.blocks.now.one.purchases.now + length c.args.blocks.now.two.purchases.now) (omega (arith, c.merge-2.auto.offers, c.requires.places.1)) c.merge-2.ensures in
-    let x : ◌≡◌ {A = Pool} (record { sales = c.merge.new.offers; purchases = c.merge-2.new.offers; brought = 0; taken = 0 }) (together (book c.args.blocks.now.one.sales.now c.args.blocks.now.one.purchases.now) (book c.args.blocks.now.two.sales.now c.args.blocks.now.two.purchases.now)) = pool_same _ _ _ _ 0 0 s p in
+    let s = whole c.merge.new.offers (merged of_sales (sale_blocks c.args.one.now.sales.now) (sale_blocks c.args.two.now.sales.now)) (length c.args.one.now.sales.now + length c.args.two.now.sales.now) (omega (arith, c.merge.auto.offers, c.requires.places.0)) c.merge.ensures in
+    let p = whole c.merge-2.new.offers (merged of_purchases (purchase_blocks c.args.one.now.purchases.now) (purchase_blocks c.args.two.now.purchases.now)) (length c.args.one.now.purchases.now + length c.args.two.now.purchases.now) (omega (arith, c.merge-2.auto.offers, c.requires.places.1)) c.merge-2.ensures in
+    let x : ◌≡◌ {A = Pool} (record { sales = c.merge.new.offers; purchases = c.merge-2.new.offers; brought = 0; taken = 0 }) (together (book c.args.one.now.sales.now c.args.one.now.purchases.now) (book c.args.two.now.sales.now c.args.two.now.purchases.now)) = pool_same _ _ _ _ 0 0 s p in
     record {
       sold = c.clear_pool.ensures.sold ∙ ap (λ (y : Pool). (cleared (g.S.SharingRule.meaning c.args.rule.now) y).sales) x;
       bought = c.clear_pool.ensures.bought ∙ ap (λ (y : Pool). (cleared (g.S.SharingRule.meaning c.args.rule.now) y).purchases) x;

@@ -1,4 +1,4 @@
-use Rattle.std.proofs.Common.{◌≡◌, ℕ, take, refl, ap, ◌∙◌, subst₂, w32, w64, SFits, to_z, of_z, rules}
+use Rattle.std.proofs.Common.{◌≡◌, take, refl, ap, ◌∙◌, w32, w64, SFits, to_z, of_z, rules}
 use Rattle.std.proofs.lemmas.Int.{to_z-of_z}
 use Rattle.auction.specs.Best.{ClearedWell}
 use Rattle.auction.specs.Books.{Book, surplus}
@@ -21,16 +21,13 @@ returns g c =
     let b₁ : Book = book (take s.one.sales t.sales₁) (take s.one.purchases t.purchases₁) in
     let b₂ : Book = book (take s.two.sales t.sales₂) (take s.two.purchases t.purchases₂) in
     let l = c.clear-clearing.new in
-    let clears : Clears m f c.forward.result c.backward.result b₁ b₂ (book l.sales_one l.purchases_one) (book l.sales_two l.purchases_two) r.price_one r.price_two r.flow = search rules in
-    let k : Clears m f s.capacities.forward s.capacities.backward b₁ b₂ (book l.sales_one l.purchases_one) (book l.sales_two l.purchases_two) r.price_one r.price_two r.flow =
-    subst₂ (λ (x y : ℕ). Clears m f x y b₁ b₂ (book l.sales_one l.purchases_one) (book l.sales_two l.purchases_two) r.price_one r.price_two r.flow) c.forward.ensures.value c.backward.ensures.value clears in
-    let w : ClearedWell c.forward.result c.backward.result b₁ b₂ (clearing m f c.forward.result c.backward.result b₁ b₂) = search rules in
-    let gains : r.surplus ≡ surplus (clearing m f c.forward.result c.backward.result b₁ b₂).schedule = search rules in
-    let gain : r.surplus ≡ surplus (outcome_at m f s t).schedule = subst₂ (λ (x y : ℕ). r.surplus ≡ surplus (clearing m f x y b₁ b₂).schedule) c.forward.ensures.value c.backward.ensures.value gains in
+    let k : Clears m f s.capacities.forward s.capacities.backward b₁ b₂ (book l.sales_one l.purchases_one) (book l.sales_two l.purchases_two) r.price_one r.price_two r.flow = search rules in
+    let w : ClearedWell s.capacities.forward s.capacities.backward b₁ b₂ (clearing m f s.capacities.forward s.capacities.backward b₁ b₂) = search rules in
+    let gain : r.surplus ≡ surplus (outcome_at m f s t).schedule = search rules in
     let fits_one : SFits w32 r.price_one = search rules in
     let fits-two : SFits w32 r.price_two = search rules in
     let fits-long : SFits w64 r.flow = search rules in
-    let fits-flow : SFits w32 r.flow = flow_fits c.forward.result c.backward.result b₁ b₂ (clearing m f c.forward.result c.backward.result b₁ b₂) r.flow c.forward.ensures.within c.backward.ensures.within w clears.carried in
+    let fits-flow : SFits w32 r.flow = flow_fits s.capacities.forward s.capacities.backward b₁ b₂ (clearing m f s.capacities.forward s.capacities.backward b₁ b₂) r.flow s.capacities.within.0 s.capacities.within.1 w k.carried in
     let fits-gain : SFits w64 r.surplus = search rules in
     record {
       report = record {
