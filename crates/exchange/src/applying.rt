@@ -8,7 +8,7 @@ ghost use Rattle.exchange.specs.declared.exchange.Answer.TheVariants as answer;
 ghost use Rattle.exchange.specs.declared.exchange.Exchange.TheVariants as exchange;
 
 use crate::exchange::{Answer, Exchange};
-use crate::results::come_to;
+use crate::results::{Onward, come_to};
 use crate::state::{Cleared, Closed, Idle, Open};
 use market::call::Call;
 use market::refusal::Refusal;
@@ -63,8 +63,8 @@ pub(crate) fn apply_open<P: PriceRule, S: SharingRule>(
         Call::Withdraw { zone, side, key } => {
             come_to(state.withdraw(&mut lent.blocks, zone, side, key))
         }
-        Call::Close => (Exchange::Closed(state.close()), Answer::Accepted),
-        Call::Annul => (Exchange::Idle(state.annul()), Answer::Accepted),
+        Call::Close => state.close().onward(),
+        Call::Annul => state.annul().onward(),
         _ => of_another_state(Exchange::Open(state)),
     }
 }
@@ -80,7 +80,7 @@ pub(crate) fn apply_closed<P: PriceRule, S: SharingRule>(
 {
     match call {
         Call::Clear => come_to(state.clear(&mut lent.blocks)),
-        Call::Annul => (Exchange::Idle(state.annul()), Answer::Accepted),
+        Call::Annul => state.annul().onward(),
         _ => of_another_state(Exchange::Closed(state)),
     }
 }
@@ -98,7 +98,7 @@ pub(crate) fn apply_cleared<P: PriceRule, S: SharingRule>(
         Call::Settle => {
             come_to(state.settle(&lent.blocks, &mut *lent.accounts, &mut *lent.entries))
         }
-        Call::Annul => (Exchange::Idle(state.annul()), Answer::Accepted),
+        Call::Annul => state.annul().onward(),
         _ => of_another_state(Exchange::Cleared(state)),
     }
 }

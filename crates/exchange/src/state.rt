@@ -120,8 +120,7 @@ impl<P: PriceRule, S: SharingRule> Idle<P, S> {
         ensures step { (t : Places) → ResultStep P.PriceRule.meaning S.SharingRule.meaning (Begin number forward backward) exchange.Open exchange.Idle accepting (exchange.Idle self) (t) result (t) }
     {
         match self.ledger.begin(number, forward, backward) {
-            Ok(begun) => {
-                let (ledger, capacities) = begun;
+            Ok((ledger, capacities)) => {
                 let Idle { engine, ledger: _ } = self;
                 let session = Session::new(capacities);
                 Ok(Open {

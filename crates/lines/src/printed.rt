@@ -18,9 +18,7 @@ impl<'a> fmt::Display for EntryLines<'a> {
 
     fn fmt<W: fmt::Write>(&self, f: &mut fmt::Formatter<W>) -> fmt::Result {
         for row in self.entries {
-            if writeln!(f, "{row}").is_err() {
-                return Err(fmt::Error);
-            }
+            writeln!(f, "{row}")?;
         }
         Ok(())
     }
