@@ -11,6 +11,7 @@ use crate::exchange::{Answer, Exchange};
 use crate::results::{Onward, come_to};
 use crate::state::{Cleared, Closed, Idle, Open};
 use market::call::Call;
+use market::places::BlockPlaces;
 use market::refusal::Refusal;
 use rules::price::PriceRule;
 use rules::sharing::SharingRule;
@@ -53,15 +54,20 @@ pub(crate) fn apply_open<P: PriceRule, S: SharingRule>(
     ensures step { Step P.PriceRule.meaning S.SharingRule.meaning call result.1 (exchange.Open state) (held_in lent.old) result.0 (held_in lent.new) }
     ensures lent { SameLent lent.old lent.new }
 {
+    let mut blocks = BlockPlaces {
+        sales_one: &mut *lent.sales_one,
+        purchases_one: &mut *lent.purchases_one,
+        sales_two: &mut *lent.sales_two,
+        purchases_two: &mut *lent.purchases_two,
+    };
     match call {
         Call::Admit { agent } => come_to(state.admit(&mut *lent.accounts, agent)),
         Call::Enter { zone, side, bid } => {
-            // Two steps, since the borrow checker has no rule for `&*lent.accounts` beside `&mut lent.blocks`.
             let accounts = &mut *lent.accounts;
-            come_to(state.enter(&mut lent.blocks, &*accounts, zone, side, bid))
+            come_to(state.enter(&mut blocks, &*accounts, zone, side, bid))
         }
         Call::Withdraw { zone, side, key } => {
-            come_to(state.withdraw(&mut lent.blocks, zone, side, key))
+            come_to(state.withdraw(&mut blocks, zone, side, key))
         }
         Call::Close => state.close().onward(),
         Call::Annul => state.annul().onward(),
@@ -78,8 +84,14 @@ pub(crate) fn apply_closed<P: PriceRule, S: SharingRule>(
     ensures step { Step P.PriceRule.meaning S.SharingRule.meaning call result.1 (exchange.Closed state) (held_in lent.old) result.0 (held_in lent.new) }
     ensures lent { SameLent lent.old lent.new }
 {
+    let mut blocks = BlockPlaces {
+        sales_one: &mut *lent.sales_one,
+        purchases_one: &mut *lent.purchases_one,
+        sales_two: &mut *lent.sales_two,
+        purchases_two: &mut *lent.purchases_two,
+    };
     match call {
-        Call::Clear => come_to(state.clear(&mut lent.blocks)),
+        Call::Clear => come_to(state.clear(&mut blocks)),
         Call::Annul => state.annul().onward(),
         _ => of_another_state(Exchange::Closed(state)),
     }
@@ -94,9 +106,15 @@ pub(crate) fn apply_cleared<P: PriceRule, S: SharingRule>(
     ensures step { Step P.PriceRule.meaning S.SharingRule.meaning call result.1 (exchange.Cleared state) (held_in lent.old) result.0 (held_in lent.new) }
     ensures lent { SameLent lent.old lent.new }
 {
+    let blocks = BlockPlaces {
+        sales_one: &mut *lent.sales_one,
+        purchases_one: &mut *lent.purchases_one,
+        sales_two: &mut *lent.sales_two,
+        purchases_two: &mut *lent.purchases_two,
+    };
     match call {
         Call::Settle => {
-            come_to(state.settle(&lent.blocks, &mut *lent.accounts, &mut *lent.entries))
+            come_to(state.settle(&blocks, &mut *lent.accounts, &mut *lent.entries))
         }
         Call::Annul => state.annul().onward(),
         _ => of_another_state(Exchange::Cleared(state)),

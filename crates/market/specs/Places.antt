@@ -8,4 +8,8 @@ abbrev pub SameZonePlaces : ZonePlaces → ZonePlaces → Type 0
 SameZonePlaces a b = (b.sales.ghost_name ≡ a.sales.ghost_name) × (b.purchases.ghost_name ≡ a.purchases.ghost_name)
 
 abbrev pub SamePlaces : BlockPlaces → BlockPlaces → Type 0
-SamePlaces a b = SameZonePlaces a.one b.one × SameZonePlaces a.two b.two
+SamePlaces a b =
+    (b.sales_one.ghost_name ≡ a.sales_one.ghost_name)
+    × (b.purchases_one.ghost_name ≡ a.purchases_one.ghost_name)
+    × (b.sales_two.ghost_name ≡ a.sales_two.ghost_name)
+    × (b.purchases_two.ghost_name ≡ a.purchases_two.ghost_name)

@@ -1,7 +1,6 @@
 -- What is lent to a call, as lists. To believe: what a table holds is what its reference points to, and a look at a table shows it; two
 -- such values lend the same places if each of their references is the same.
 use Rattle.std.specs.Prelude.{◌≡◌, List}
-use Rattle.market.specs.Places.{SamePlaces}
 use Rattle.market.specs.declared.account.Account.{Account}
 use Rattle.market.specs.declared.places.BlockPlaces.{BlockPlaces}
 use Rattle.market.specs.declared.places.ZonePlaces.{ZonePlaces}
@@ -26,17 +25,23 @@ abbrev pub zone_held : ZoneCounts → ZonePlaces → ZoneTables
 zone_held n t = zone_tables n t.sales.now t.purchases.now
 
 abbrev pub blocks_held : Session → BlockPlaces → Blocks
-blocks_held s t = blocks_of s t.one.sales.now t.one.purchases.now t.two.sales.now t.two.purchases.now
+blocks_held s t = blocks_of s t.sales_one.now t.purchases_one.now t.sales_two.now t.purchases_two.now
 
 abbrev pub four_held : BlockPlaces → Four
-four_held t = four t.one.sales.now t.one.purchases.now t.two.sales.now t.two.purchases.now
+four_held t = four t.sales_one.now t.purchases_one.now t.sales_two.now t.purchases_two.now
 
 -- everything that is lent
 abbrev pub places_held : BlockPlaces → List Account → List Entry → Places
-places_held t xs es = places t.one.sales.now t.one.purchases.now t.two.sales.now t.two.purchases.now xs es
+places_held t xs es = places t.sales_one.now t.purchases_one.now t.sales_two.now t.purchases_two.now xs es
 
 abbrev pub held_in : Lent → Places
-held_in l = places_held l.blocks l.accounts.now l.entries.now
+held_in l = places l.sales_one.now l.purchases_one.now l.sales_two.now l.purchases_two.now l.accounts.now l.entries.now
 
 abbrev pub SameLent : Lent → Lent → Type 0
-SameLent a b = SamePlaces a.blocks b.blocks × (b.accounts.ghost_name ≡ a.accounts.ghost_name) × (b.entries.ghost_name ≡ a.entries.ghost_name)
+SameLent a b =
+    (b.sales_one.ghost_name ≡ a.sales_one.ghost_name)
+    × (b.purchases_one.ghost_name ≡ a.purchases_one.ghost_name)
+    × (b.sales_two.ghost_name ≡ a.sales_two.ghost_name)
+    × (b.purchases_two.ghost_name ≡ a.purchases_two.ghost_name)
+    × (b.accounts.ghost_name ≡ a.accounts.ghost_name)
+    × (b.entries.ghost_name ≡ a.entries.ghost_name)

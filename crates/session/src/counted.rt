@@ -67,13 +67,13 @@ fn settle_counted<P, S>(
     ensures after { Posts (held_for session report (four_held blocks.now)) ledger accounts.old entries.old result accounts.new entries.new }
 {
     let one = ClearedZone {
-        sales: &blocks.one.sales[..session.one.sales],
-        purchases: &blocks.one.purchases[..session.one.purchases],
+        sales: &blocks.sales_one[..session.one.sales],
+        purchases: &blocks.purchases_one[..session.one.purchases],
         price: report.price_one,
     };
     let two = ClearedZone {
-        sales: &blocks.two.sales[..session.two.sales],
-        purchases: &blocks.two.purchases[..session.two.purchases],
+        sales: &blocks.sales_two[..session.two.sales],
+        purchases: &blocks.purchases_two[..session.two.purchases],
         price: report.price_two,
     };
     let cleared = ClearedSession {

@@ -5,7 +5,7 @@ ghost use Rattle.market.specs.Refusals.{FirstCause};
 ghost use Rattle.session.specs.Causes.{BlocksFit, BlocksInOrder, ZoneFits, ZoneInOrder, clear_causes, enter_causes, five_causes, nowhere_causes, owned_causes, row_enter_causes, row_withdraw_causes, side_enter_causes, side_withdraw_causes, standing_causes, withdraw_causes};
 ghost use Rattle.session.specs.Changes.{Becomes, Leaves, Passed, SessionBecomes, ZoneBecomes, empty_session};
 ghost use Rattle.session.specs.Lending.{blocks_held, held, seen, zone_held};
-ghost use Rattle.session.specs.Tables.{Fits, account_kind, entered_in, in_zone, kind, lent, put_in, taken_out, withdrawn_in, zone_at};
+ghost use Rattle.session.specs.Tables.{Fits, account_kind, entered_in, in_zone, kind, lent, put_in, taken_out, withdrawn_in, zone_at, zone_tables};
 
 use crate::rows::put;
 use market::account::Account;
@@ -204,16 +204,24 @@ impl Session {
         bid: Bid,
     ) -> Result<Session, Refusal>
         ensures why { FirstCause (enter_causes (zone_at zone) side bid (blocks_held self blocks.old) (seen accounts.entry)) result }
-        ensures after { SessionBecomes self blocks.old.one.sales.now blocks.old.one.purchases.now blocks.old.two.sales.now blocks.old.two.purchases.now (in_zone (zone_at zone) (entered_in side bid) (blocks_held self blocks.old)) result blocks.new.one.sales.now blocks.new.one.purchases.now blocks.new.two.sales.now blocks.new.two.purchases.now }
+        ensures after { SessionBecomes self blocks.old.sales_one.now blocks.old.purchases_one.now blocks.old.sales_two.now blocks.old.purchases_two.now (in_zone (zone_at zone) (entered_in side bid) (blocks_held self blocks.old)) result blocks.new.sales_one.now blocks.new.purchases_one.now blocks.new.sales_two.now blocks.new.purchases_two.now }
         ensures lent { SamePlaces blocks.old blocks.new }
     {
         match Zone::try_from(zone) {
             Ok(Zone::One) => {
-                let one = self.one.enter(&mut blocks.one, accounts, side, bid)?;
+                let mut places = ZonePlaces {
+                    sales: &mut *blocks.sales_one,
+                    purchases: &mut *blocks.purchases_one,
+                };
+                let one = self.one.enter(&mut places, accounts, side, bid)?;
                 Ok(Session { one, ..self })
             }
             Ok(Zone::Two) => {
-                let two = self.two.enter(&mut blocks.two, accounts, side, bid)?;
+                let mut places = ZonePlaces {
+                    sales: &mut *blocks.sales_two,
+                    purchases: &mut *blocks.purchases_two,
+                };
+                let two = self.two.enter(&mut places, accounts, side, bid)?;
                 Ok(Session { two, ..self })
             }
             Err(_) => Err(wrong_zone(accounts)),
@@ -229,16 +237,24 @@ impl Session {
         key: BlockKey,
     ) -> Result<Session, Refusal>
         ensures why { FirstCause (withdraw_causes (zone_at zone) side key (blocks_held self blocks.old)) result }
-        ensures after { SessionBecomes self blocks.old.one.sales.now blocks.old.one.purchases.now blocks.old.two.sales.now blocks.old.two.purchases.now (in_zone (zone_at zone) (withdrawn_in side key) (blocks_held self blocks.old)) result blocks.new.one.sales.now blocks.new.one.purchases.now blocks.new.two.sales.now blocks.new.two.purchases.now }
+        ensures after { SessionBecomes self blocks.old.sales_one.now blocks.old.purchases_one.now blocks.old.sales_two.now blocks.old.purchases_two.now (in_zone (zone_at zone) (withdrawn_in side key) (blocks_held self blocks.old)) result blocks.new.sales_one.now blocks.new.purchases_one.now blocks.new.sales_two.now blocks.new.purchases_two.now }
         ensures lent { SamePlaces blocks.old blocks.new }
     {
         match Zone::try_from(zone)? {
             Zone::One => {
-                let one = self.one.withdraw(&mut blocks.one, side, key)?;
+                let mut places = ZonePlaces {
+                    sales: &mut *blocks.sales_one,
+                    purchases: &mut *blocks.purchases_one,
+                };
+                let one = self.one.withdraw(&mut places, side, key)?;
                 Ok(Session { one, ..self })
             }
             Zone::Two => {
-                let two = self.two.withdraw(&mut blocks.two, side, key)?;
+                let mut places = ZonePlaces {
+                    sales: &mut *blocks.sales_two,
+                    purchases: &mut *blocks.purchases_two,
+                };
+                let two = self.two.withdraw(&mut places, side, key)?;
                 Ok(Session { two, ..self })
             }
         }
@@ -248,19 +264,17 @@ impl Session {
 // Two checks and not one over a closure: the two tables of a zone are of two types, and a closure takes one.
 impl ZoneCounts {
     // Whether the tables of the zone are within their sizes.
-    fn fits(self, places: &ZonePlaces<'_>) -> bool
-        ensures { Decides result (ZoneFits (zone_held self places.now)) }
+    fn fits(self, sales: &[Sale], purchases: &[Purchase]) -> bool
+        ensures { Decides result (ZoneFits (zone_tables self sales.now purchases.now)) }
     {
-        View::new(&*places.sales, self.sales).fits()
-            && View::new(&*places.purchases, self.purchases).fits()
+        View::new(sales, self.sales).fits() && View::new(purchases, self.purchases).fits()
     }
 
     // Whether the counted blocks of the zone are within their limits and in order, with no key twice.
-    fn in_order(self, places: &ZonePlaces<'_>) -> bool
-        ensures { Decides result (ZoneInOrder (zone_held self places.now)) }
+    fn in_order(self, sales: &[Sale], purchases: &[Purchase]) -> bool
+        ensures { Decides result (ZoneInOrder (zone_tables self sales.now purchases.now)) }
     {
-        View::new(&*places.sales, self.sales).is_sound()
-            && View::new(&*places.purchases, self.purchases).is_sound()
+        View::new(sales, self.sales).is_sound() && View::new(purchases, self.purchases).is_sound()
     }
 }
 
@@ -269,14 +283,16 @@ impl Session {
     fn fits(self, blocks: &BlockPlaces<'_>) -> bool
         ensures { Decides result (BlocksFit (blocks_held self blocks.now)) }
     {
-        self.one.fits(&blocks.one) && self.two.fits(&blocks.two)
+        self.one.fits(&*blocks.sales_one, &*blocks.purchases_one)
+            && self.two.fits(&*blocks.sales_two, &*blocks.purchases_two)
     }
 
     // Whether the counted blocks are within their limits and in order, with no key twice in a table.
     fn in_order(self, blocks: &BlockPlaces<'_>) -> bool
         ensures { Decides result (BlocksInOrder (blocks_held self blocks.now)) }
     {
-        self.one.in_order(&blocks.one) && self.two.in_order(&blocks.two)
+        self.one.in_order(&*blocks.sales_one, &*blocks.purchases_one)
+            && self.two.in_order(&*blocks.sales_two, &*blocks.purchases_two)
     }
 
     // Checks the tables of a clearing.

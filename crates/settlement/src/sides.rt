@@ -100,7 +100,8 @@ fn row_entry<B: BlockRow>(row: &B, price: i32) -> Entry
     }
 }
 
-// Writes the entries of all matched blocks over the first places.
+// Writes the entries of all matched blocks over the first places. The place is counted by hand: a `for` over an enumerated filter gets
+// no invariant in a generic function.
 pub(crate) fn write_side<B: BlockRow>(blocks: &[B], price: i32, entries: &mut [Entry])
     requires { length (side_entries (trade_of B.held B.traded) price blocks.now) ≤ length entries.old }
     ensures { entries.new ≡ written 0 (side_entries (trade_of B.held B.traded) price blocks.now) entries.old }

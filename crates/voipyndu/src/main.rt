@@ -7,7 +7,6 @@ use exchange::state::Idle;
 use lines::line::answer_line;
 use lines::printed::Printed;
 use market::account::Account;
-use market::places::{BlockPlaces, ZonePlaces};
 use market::purchase::Purchase;
 use market::sale::Sale;
 use rules::price::LowEnd;
@@ -45,21 +44,16 @@ impl Tables {
             sales_two: vec![in heap; Sale::default(); BLOCK_PLACES]?,
             purchases_two: vec![in heap; Purchase::default(); BLOCK_PLACES]?,
             accounts: vec![in heap; Account::default(); ACCOUNT_PLACES]?,
-            entries: vec![in heap; blank_entry(); ENTRY_PLACES]?,
+            entries: vec![in heap; Entry::default(); ENTRY_PLACES]?,
         })
     }
 
     fn lend(&mut self) -> Lent<'_> {
-        let one = ZonePlaces {
-            sales: &mut self.sales_one,
-            purchases: &mut self.purchases_one,
-        };
-        let two = ZonePlaces {
-            sales: &mut self.sales_two,
-            purchases: &mut self.purchases_two,
-        };
         Lent {
-            blocks: BlockPlaces { one, two },
+            sales_one: &mut self.sales_one,
+            purchases_one: &mut self.purchases_one,
+            sales_two: &mut self.sales_two,
+            purchases_two: &mut self.purchases_two,
             accounts: &mut self.accounts,
             entries: &mut self.entries,
         }
@@ -88,15 +82,6 @@ impl Service for Desk {
         };
         let done = write!(out, "{printed}");
         (Desk { exchange, tables }, done)
-    }
-}
-
-fn blank_entry() -> Entry {
-    Entry {
-        agent: 0,
-        unit: 0,
-        number: 0,
-        cents: 0,
     }
 }
 

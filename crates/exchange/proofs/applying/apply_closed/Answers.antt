@@ -12,5 +12,5 @@ returns-in-Clear g c =
     rw c.in-Clear.is (record {
       does = (c.clear.result, k.why, k.after, refl, w);
       step = step_as g.P.PriceRule.meaning g.S.SharingRule.meaning _ exchange.Cleared exchange.Closed reporting _ _ c.clear.result _ _ _ w (k.step (held_in c.args.lent.now));
-      lent = (k.lent, refl, refl);
+      lent = (refl, refl, refl, refl, refl, refl);
     })

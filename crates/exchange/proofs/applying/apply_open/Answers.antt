@@ -12,7 +12,7 @@ returns-in-Admit g c =
     rw c.in-Admit.is (record {
       does = (c.admit.result, k.why, k.after, refl, w);
       step = step_as g.P.PriceRule.meaning g.S.SharingRule.meaning _ exchange.Open exchange.Open accepting _ _ c.admit.result _ _ _ w (k.step (held_in c.args.lent.now));
-      lent = (((refl, refl), (refl, refl)), refl, refl);
+      lent = (refl, refl, refl, refl, refl, refl);
     })
 
 pub returns-in-Enter : goal.returns-in-Enter
@@ -22,7 +22,7 @@ returns-in-Enter g c =
     rw c.in-Enter.is (record {
       does = (c.enter.result, k.why, k.after, refl, w);
       step = step_as g.P.PriceRule.meaning g.S.SharingRule.meaning _ exchange.Open exchange.Open accepting _ _ c.enter.result _ _ _ w (k.step c.args.lent.now.entries.now);
-      lent = (k.lent, refl, refl);
+      lent = (refl, refl, refl, refl, refl, refl);
     })
 
 pub returns-in-Withdraw : goal.returns-in-Withdraw
@@ -32,5 +32,5 @@ returns-in-Withdraw g c =
     rw c.in-Withdraw.is (record {
       does = (c.withdraw.result, k.why, k.after, refl, w);
       step = step_as g.P.PriceRule.meaning g.S.SharingRule.meaning _ exchange.Open exchange.Open accepting _ _ c.withdraw.result _ _ _ w (k.step (held_in c.args.lent.now));
-      lent = (k.lent, refl, refl);
+      lent = (refl, refl, refl, refl, refl, refl);
     })
