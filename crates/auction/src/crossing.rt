@@ -7,6 +7,7 @@ ghost use Rattle.auction.specs.Offers.{of_sales, of_purchases, volume_of};
 ghost use Rattle.auction.specs.Ready.{Ready};
 
 use crate::offer::Offer;
+use crate::pool::Carried;
 use market::limits::{MAX_PRICE, MIN_PRICE};
 
 // A place on a curve: `left` tenths at `price`, and then the offers from `next` on.
@@ -59,18 +60,12 @@ fn passed(cursor: Cursor, step: u32) -> Cursor
     }
 }
 
-// How much is matched of two sides, where `brought` sale tenths at the lowest price and `taken` purchase tenths at the highest stand
-// ahead of every block: both curves are walked offer by offer for as long as the sale is no dearer than the purchase.
-pub(crate) fn find_crossing(
-    sales: &[Offer],
-    brought: u32,
-    purchases: &[Offer],
-    taken: u32,
-) -> Crossing
+// How much is matched of two sides, where the tenths that the line carries stand ahead of every block, those of sales at the lowest price
+// and those of purchases at the highest: both curves are walked offer by offer for as long as the sale is no dearer than the purchase.
+pub(crate) fn find_crossing(sales: &[Offer], purchases: &[Offer], carried: Carried) -> Crossing
     requires rising { Ready of_sales sales.now }
     requires falling { Ready of_purchases purchases.now }
-    requires carried { (brought ≤ 30000000) × (taken ≤ 30000000) }
-    ensures { Crossed (behind brought lowest_price sales.now) (behind taken highest_price purchases.now) result.amount result.sale result.purchase }
+    ensures { Crossed (behind carried.brought lowest_price sales.now) (behind carried.taken highest_price purchases.now) result.amount result.sale result.purchase }
 {
     let mut amount: u32 = 0;
     let mut last_sale = MIN_PRICE;
@@ -78,7 +73,7 @@ pub(crate) fn find_crossing(
     let mut sale = filled(
         Cursor {
             next: 0,
-            left: brought,
+            left: carried.brought,
             price: MIN_PRICE,
         },
         sales,
@@ -86,7 +81,7 @@ pub(crate) fn find_crossing(
     let mut purchase = filled(
         Cursor {
             next: 0,
-            left: taken,
+            left: carried.taken,
             price: MAX_PRICE,
         },
         purchases,

@@ -11,6 +11,7 @@ ghost use Rattle.market.specs.Places.{SameZonePlaces};
 
 use crate::line::{Line, line_of};
 use crate::offer::{Offer, no_offer};
+use crate::pool::Carried;
 use crate::sums::{surplus_of, total_in};
 use crate::zones::{clear_together, clear_zone, write_zone};
 use market::capacities::Capacities;
@@ -74,20 +75,19 @@ impl<P: PriceRule, S: SharingRule> Engine<P, S> {
     }
 
     // Clears a zone alone, writes its tables, and answers its price.
-    fn clear_alone(&self, zone: Zone, places: &mut ZonePlaces, brought: u32, taken: u32) -> i32
+    fn clear_alone(&self, zone: Zone, places: &mut ZonePlaces, carried: Carried) -> i32
         requires tables { TablesSound places.old.sales.now places.old.purchases.now }
-        requires carried { (brought ≤ 30000000) × (taken ≤ 30000000) }
-        requires room { Room (zone_pool zone (book_of_places places.old) brought taken) }
+        requires room { Room (zone_pool zone (book_of_places places.old) carried.brought carried.taken) }
         ensures lent { SameZonePlaces places.old places.new }
-        ensures tables { book_of_places places.new ≡ book_of zone (cleared (S.SharingRule.meaning self.now.sharing_rule) (zone_pool zone (book_of_places places.old) brought taken)) }
-        ensures price { result ≡ price_in (P.PriceRule.meaning self.now.price_rule) (cleared (S.SharingRule.meaning self.now.sharing_rule) (zone_pool zone (book_of_places places.old) brought taken)) }
+        ensures tables { book_of_places places.new ≡ book_of zone (cleared (S.SharingRule.meaning self.now.sharing_rule) (zone_pool zone (book_of_places places.old) carried.brought carried.taken)) }
+        ensures price { result ≡ price_in (P.PriceRule.meaning self.now.price_rule) (cleared (S.SharingRule.meaning self.now.sharing_rule) (zone_pool zone (book_of_places places.old) carried.brought carried.taken)) }
     {
         let mut sold = [no_offer(); 256];
         let mut bought = [no_offer(); 256];
         let sold = &mut sold[..places.sales.len()];
         let bought = &mut bought[..places.purchases.len()];
         let rule = &self.sharing_rule;
-        let (low, high) = clear_zone(rule, zone, places, sold, bought, brought, taken);
+        let (low, high) = clear_zone(rule, zone, places, sold, bought, carried);
         write_zone(places, zone, sold, bought);
         self.price_rule.price(low, high)
     }
@@ -114,13 +114,29 @@ impl<P: PriceRule, S: SharingRule> Engine<P, S> {
         match common.line {
             Line::Enough => (common.price, common.price, common.flow),
             Line::There => {
-                let price_one = self.clear_alone(Zone::One, one, 0, forward);
-                let price_two = self.clear_alone(Zone::Two, two, forward, 0);
+                let out = Carried {
+                    brought: 0,
+                    taken: forward,
+                };
+                let into = Carried {
+                    brought: forward,
+                    taken: 0,
+                };
+                let price_one = self.clear_alone(Zone::One, one, out);
+                let price_two = self.clear_alone(Zone::Two, two, into);
                 (price_one, price_two, forward as i64)
             }
             Line::Back => {
-                let price_one = self.clear_alone(Zone::One, one, backward, 0);
-                let price_two = self.clear_alone(Zone::Two, two, 0, backward);
+                let out = Carried {
+                    brought: 0,
+                    taken: backward,
+                };
+                let into = Carried {
+                    brought: backward,
+                    taken: 0,
+                };
+                let price_one = self.clear_alone(Zone::One, one, into);
+                let price_two = self.clear_alone(Zone::Two, two, out);
                 (price_one, price_two, -(backward as i64))
             }
         }

@@ -13,29 +13,35 @@ use market::limits::{MAX_PRICE, MIN_PRICE};
 use market::zone::Side;
 use rules::sharing::SharingRule;
 
-// Gives each offer its part of the matched amount, and answers the bracket. The line brings in `brought` sale tenths and takes out
-// `taken` purchase tenths, ahead of every block.
+// What the line carries for what is cleared, ahead of every block: the sale tenths that it brings in, and the purchase tenths that it
+// takes out.
+#[derive(Clone, Copy)]
+pub struct Carried {
+    pub brought: u32,
+    pub taken: u32,
+    ghost within: { (brought ≤ 30000000) × (taken ≤ 30000000) },
+}
+
+// Gives each offer its part of the matched amount, and answers the bracket.
 pub(crate) fn clear_pool<S: SharingRule>(
     rule: &S,
     sales: &mut [Offer],
     purchases: &mut [Offer],
-    brought: u32,
-    taken: u32,
+    carried: Carried,
 ) -> (i32, i32)
     requires rising { Ready of_sales sales.old }
     requires falling { Ready of_purchases purchases.old }
-    requires carried { (brought ≤ 30000000) × (taken ≤ 30000000) }
-    requires room { Room (record { sales = sales.old; purchases = purchases.old; brought = brought; taken = taken }) }
-    ensures sold { sales.new ≡ (cleared (S.SharingRule.meaning rule.now) (record { sales = sales.old; purchases = purchases.old; brought = brought; taken = taken })).sales }
-    ensures bought { purchases.new ≡ (cleared (S.SharingRule.meaning rule.now) (record { sales = sales.old; purchases = purchases.old; brought = brought; taken = taken })).purchases }
+    requires room { Room (record { sales = sales.old; purchases = purchases.old; brought = carried.brought; taken = carried.taken }) }
+    ensures sold { sales.new ≡ (cleared (S.SharingRule.meaning rule.now) (record { sales = sales.old; purchases = purchases.old; brought = carried.brought; taken = carried.taken })).sales }
+    ensures bought { purchases.new ≡ (cleared (S.SharingRule.meaning rule.now) (record { sales = sales.old; purchases = purchases.old; brought = carried.brought; taken = carried.taken })).purchases }
     ensures bracket { result ≡ (low_end sales.new purchases.new, high_end sales.new purchases.new) }
 {
-    let crossing = find_crossing(sales, brought, purchases, taken);
+    let crossing = find_crossing(sales, purchases, carried);
     match_offers(
         rule,
         sales,
         Side::Sale,
-        brought,
+        carried.brought,
         MIN_PRICE,
         crossing.amount,
         crossing.sale,
@@ -44,7 +50,7 @@ pub(crate) fn clear_pool<S: SharingRule>(
         rule,
         purchases,
         Side::Purchase,
-        taken,
+        carried.taken,
         MAX_PRICE,
         crossing.amount,
         crossing.purchase,

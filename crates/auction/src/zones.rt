@@ -8,7 +8,7 @@ ghost use Rattle.market.specs.Places.{SameZonePlaces};
 
 use crate::merge::{merge, write_back};
 use crate::offer::Offer;
-use crate::pool::clear_pool;
+use crate::pool::{Carried, clear_pool};
 use market::places::ZonePlaces;
 use market::row::BlockRow;
 use market::zone::Zone;
@@ -42,7 +42,11 @@ pub(crate) fn clear_together<S: SharingRule>(
 {
     merge(one.sales, two.sales, sold);
     merge(one.purchases, two.purchases, bought);
-    clear_pool(rule, sold, bought, 0, 0)
+    let carried = Carried {
+        brought: 0,
+        taken: 0,
+    };
+    clear_pool(rule, sold, bought, carried)
 }
 
 // Clears a zone alone, in the places of `sold` and `bought`, and answers the bracket.
@@ -52,20 +56,18 @@ pub(crate) fn clear_zone<S: SharingRule>(
     places: &ZonePlaces,
     sold: &mut [Offer],
     bought: &mut [Offer],
-    brought: u32,
-    taken: u32,
+    carried: Carried,
 ) -> (i32, i32)
     requires tables { TablesSound places.now.sales.now places.now.purchases.now }
     requires places { (length sold.old ≡ length places.now.sales.now) × (length bought.old ≡ length places.now.purchases.now) }
-    requires carried { (brought ≤ 30000000) × (taken ≤ 30000000) }
-    requires room { Room (zone_pool zone (book_of_places places.now) brought taken) }
-    ensures sold { sold.new ≡ (cleared (S.SharingRule.meaning rule.now) (zone_pool zone (book_of_places places.now) brought taken)).sales }
-    ensures bought { bought.new ≡ (cleared (S.SharingRule.meaning rule.now) (zone_pool zone (book_of_places places.now) brought taken)).purchases }
+    requires room { Room (zone_pool zone (book_of_places places.now) carried.brought carried.taken) }
+    ensures sold { sold.new ≡ (cleared (S.SharingRule.meaning rule.now) (zone_pool zone (book_of_places places.now) carried.brought carried.taken)).sales }
+    ensures bought { bought.new ≡ (cleared (S.SharingRule.meaning rule.now) (zone_pool zone (book_of_places places.now) carried.brought carried.taken)).purchases }
     ensures bracket { result ≡ (low_end sold.new bought.new, high_end sold.new bought.new) }
 {
     load(zone, places.sales, sold);
     load(zone, places.purchases, bought);
-    clear_pool(rule, sold, bought, brought, taken)
+    clear_pool(rule, sold, bought, carried)
 }
 
 // Writes the offers of a zone back to its tables.

@@ -6,8 +6,8 @@ use Rattle.auction.proofs.crossing.find_crossing.Given as goal
 
 abbrev pub invariant-loop-sale : goal.invariant-loop-sale
 invariant-loop-sale l =
-    Walked l.brought lowest_price l.sales l.taken highest_price l.purchases l.amount l.sale.next l.sale.left l.sale.price
+    Walked l.fn.carried.brought lowest_price l.sales l.fn.carried.taken highest_price l.purchases l.amount l.sale.next l.sale.left l.sale.price
     l.purchase.next l.purchase.left l.purchase.price l.last_sale l.last_purchase
 
 abbrev pub decreases-loop-sale : goal.decreases-loop-sale
-decreases-loop-sale l = length (behind l.brought lowest_price l.sales) - l.amount
+decreases-loop-sale l = length (behind l.fn.carried.brought lowest_price l.sales) - l.amount

@@ -11,14 +11,14 @@ use Rattle.auction.proofs.pool.clear_pool.Goals as goal
 
 pub match_offers-requires : goal.match_offers-requires
 match_offers-requires g c =
-    let s = behind c.args.brought lowest_price c.args.sales.now in
-    let d = behind c.args.taken highest_price c.args.purchases.now in
+    let s = behind c.args.carried.brought lowest_price c.args.sales.now in
+    let d = behind c.args.carried.taken highest_price c.args.purchases.now in
     let e : c.find_crossing-crossing.result.amount ≡ amount s d = c.find_crossing-crossing.ensures.found in
     let b = amount_bounds s d (amount s d) (amount_found s d) in
     let f : SFits w32 c.find_crossing-crossing.result.sale = search rules in
     record {
       side = c.requires.rising;
-      sorted = (behind_lowest c.args.brought c.args.sales.now c.requires.rising).0;
+      sorted = (behind_lowest c.args.carried.brought c.args.sales.now c.requires.rising).0;
       placed = omega (arith, e, c.requires.room.brings);
       reached = omega (arith, e, b);
       last = λ h. to_z-of_z w32 c.find_crossing-crossing.result.sale f ∙ c.find_crossing-crossing.ensures.sale h;
@@ -26,14 +26,14 @@ match_offers-requires g c =
 
 pub match_offers-requires-2 : goal.match_offers-requires-2
 match_offers-requires-2 g c =
-    let s = behind c.args.brought lowest_price c.args.sales.now in
-    let d = behind c.args.taken highest_price c.args.purchases.now in
+    let s = behind c.args.carried.brought lowest_price c.args.sales.now in
+    let d = behind c.args.carried.taken highest_price c.args.purchases.now in
     let e : c.find_crossing-crossing.result.amount ≡ amount s d = c.find_crossing-crossing.ensures.found in
     let b = amount_bounds s d (amount s d) (amount_found s d) in
     let f : SFits w32 c.find_crossing-crossing.result.purchase = search rules in
     record {
       side = search rules;
-      sorted = (behind_highest c.args.taken c.args.purchases.now c.requires.falling).0;
+      sorted = (behind_highest c.args.carried.taken c.args.purchases.now c.requires.falling).0;
       placed = omega (arith, e, c.requires.room.takes);
       reached = omega (arith, e, b);
       last = λ h. to_z-of_z w32 c.find_crossing-crossing.result.purchase f ∙ c.find_crossing-crossing.ensures.purchase h;
@@ -44,7 +44,7 @@ unfolding cleared
 returns g c =
     let m = g.S.SharingRule.meaning c.args.rule.now in
     record {
-      sold = c.match_offers.ensures ∙ ap (λ (q : ℕ). match_side m of_sales c.args.brought lowest_price q c.args.sales.now) c.find_crossing-crossing.ensures.found;
-      bought = c.match_offers-2.ensures ∙ ap (λ (q : ℕ). match_side m of_purchases c.args.taken highest_price q c.args.purchases.now) c.find_crossing-crossing.ensures.found;
+      sold = c.match_offers.ensures ∙ ap (λ (q : ℕ). match_side m of_sales c.args.carried.brought lowest_price q c.args.sales.now) c.find_crossing-crossing.ensures.found;
+      bought = c.match_offers-2.ensures ∙ ap (λ (q : ℕ). match_side m of_purchases c.args.carried.taken highest_price q c.args.purchases.now) c.find_crossing-crossing.ensures.found;
       bracket = c.bracket_of.ensures;
     }

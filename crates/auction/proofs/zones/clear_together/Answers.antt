@@ -19,7 +19,6 @@ clear_pool-requires g c =
     record {
       rising = subst (Ready of_sales) (sym s) (sales_ready c.args.one.now.sales.now c.args.two.now.sales.now c.args.one.now.purchases.now c.args.two.now.purchases.now c.requires.one c.requires.two);
       falling = subst (Ready of_purchases) (sym p) (purchases_ready c.args.one.now.sales.now c.args.two.now.sales.now c.args.one.now.purchases.now c.args.two.now.purchases.now c.requires.one c.requires.two);
-      carried = (omega arith, omega arith);
       room = record { brings = omega arith; takes = omega arith };
     }
 
