@@ -30,6 +30,7 @@ pub fn run<P: PriceRule, S: SharingRule>(
 {
     let n = calls.len().min(answers.len());
     let mut current = first;
+    // No `zip` with `answers.iter_mut()`: of what is written through it the proof learns the length alone, so `throughout` did not close.
     for (i, call) in calls[..n].iter().enumerate() {
         let (next, answer) = current.apply(&mut *lent, *call);
         answers[i] = answer;

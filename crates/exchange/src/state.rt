@@ -36,6 +36,8 @@ use table::view::View;
 
 mod wind_up;
 
+// Four types, and not one over a stage, so that the compiler names the state and the calls that it has (docs/ARCHITECTURE.md); `admit` and
+// `annul` are written for each.
 pub struct Idle<P, S> {
     engine: Engine<P, S>,
     ledger: Ledger,
