@@ -19,7 +19,6 @@ ghost use Rattle.exchange.specs.declared.exchange.Exchange.TheVariants as exchan
 use auction::engine::Engine;
 use market::account::Account;
 use market::block::{Bid, BlockKey};
-use market::capacities::Capacities;
 use market::places::BlockPlaces;
 use market::refusal::Refusal;
 use market::zone::Side;

@@ -1,5 +1,5 @@
 // The session that is open: what the interconnector can carry, and how many blocks are counted in each table.
-ghost use Rattle.std.specs.Prelude.{◌≡◌, ◌++◌, Err, Decides};
+ghost use Rattle.std.specs.Prelude.{◌≡◌, Err, Decides};
 ghost use Rattle.market.specs.Places.{SamePlaces, SameZonePlaces};
 ghost use Rattle.market.specs.Refusals.{FirstCause};
 ghost use Rattle.session.specs.Causes.{BlocksFit, BlocksInOrder, ZoneFits, ZoneInOrder, clear_causes, enter_causes, five_causes, nowhere_causes, owned_causes, row_enter_causes, row_withdraw_causes, side_enter_causes, side_withdraw_causes, standing_causes, withdraw_causes};
@@ -63,7 +63,8 @@ fn put_owned<R: Record>(
     put(table, row)
 }
 
-// Puts a bid into a table as a row, once the tables and the bid are checked; answers the new count.
+// Puts a bid into a table as a row, once the tables and the bid are checked; answers the new count. Rows and count come apart, since of
+// a `Table` made of a field behind a `&mut` the caller's proof did not learn what the field holds afterwards.
 fn enter_row<R: Record>(
     rows: &mut [R],
     count: usize,
