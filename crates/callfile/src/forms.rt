@@ -10,6 +10,7 @@ use market::block::{Bid, BlockKey};
 use market::call::Call;
 use market::zone::Side;
 
+// No `match` on the name, for the reason given at `call_named`.
 fn side_named(name: &[u8]) -> Option<Side>
     ensures { result ≡ side_named name.now }
 {

@@ -18,6 +18,7 @@ pub trait BlockRow: Copy {
     fn block(&self) -> Block
         ensures { result ≡ held self.now };
 
+    // No `From`, whose promise could not be said by `held`.
     fn of(block: Block) -> Self
         ensures { held result ≡ block };
 

@@ -111,6 +111,7 @@ fn all_come_out<P: PriceRule, S: SharingRule>(
     let heap = rt.alloc();
     let mut all = true;
     for case in cases {
+        // Four by name: a ladder borrows two, and a value that held all four would have to lend them one by one.
         let mut sales_one = vec![in heap; Sale::default(); PLACES]?;
         let mut purchases_one = vec![in heap; Purchase::default(); PLACES]?;
         let mut sales_two = vec![in heap; Sale::default(); PLACES]?;
