@@ -113,9 +113,7 @@ pub(crate) fn apply_cleared<P: PriceRule, S: SharingRule>(
         purchases_two: &mut *lent.purchases_two,
     };
     match call {
-        Call::Settle => {
-            come_to(state.settle(&blocks, &mut *lent.accounts, &mut *lent.entries))
-        }
+        Call::Settle => { come_to(state.settle(&blocks, &mut *lent.accounts, &mut *lent.entries)) }
         Call::Annul => state.annul().onward(),
         _ => of_another_state(Exchange::Cleared(state)),
     }

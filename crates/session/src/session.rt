@@ -292,8 +292,11 @@ impl Session {
     fn in_order(self, blocks: &BlockPlaces<'_>) -> bool
         ensures { Decides result (BlocksInOrder (blocks_held self blocks.now)) }
     {
-        self.one.in_order(&*blocks.sales_one, &*blocks.purchases_one)
-            && self.two.in_order(&*blocks.sales_two, &*blocks.purchases_two)
+        self.one
+            .in_order(&*blocks.sales_one, &*blocks.purchases_one)
+            && self
+                .two
+                .in_order(&*blocks.sales_two, &*blocks.purchases_two)
     }
 
     // Checks the tables of a clearing.
