@@ -45,6 +45,8 @@ pub(crate) fn apply_idle<P: PriceRule, S: SharingRule>(
     }
 }
 
+// The places of the blocks are taken out of `lent` in three calls: a function that handed them on could not promise what `lent` holds
+// after them.
 pub(crate) fn apply_open<P: PriceRule, S: SharingRule>(
     state: Open<P, S>,
     lent: &mut Lent<'_>,

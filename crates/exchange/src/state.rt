@@ -35,8 +35,8 @@ use table::view::View;
 
 mod wind_up;
 
-// Four types, and not one over a stage, so that the compiler names the state and the calls that it has (docs/ARCHITECTURE.md); `admit` and
-// `annul` are written for each.
+// Four types by the project's rule, so that the compiler names the state and the calls that it has (docs/ARCHITECTURE.md): `admit` is
+// written for two of them, and `annul` for three.
 pub struct Idle<P, S> {
     engine: Engine<P, S>,
     ledger: Ledger,
@@ -71,7 +71,7 @@ fn between_sessions<P, S>(engine: Engine<P, S>, carried: Ledger) -> Idle<P, S>
     }
 }
 
-// A refusal, and the state as it was.
+// A refusal, and the state as it was. Each call hands it on by a `match`, since a `?` would let the state go.
 pub struct Refused<T> {
     pub state: T,
     pub why: Refusal,

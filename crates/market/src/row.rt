@@ -32,7 +32,8 @@ impl BlockRow for Sale {
     ghost traded = { side-of.Sale };
 
     fn block(&self) -> Block {
-        self.block
+        let Sale { block } = *self;
+        block
     }
 
     fn of(block: Block) -> Sale {
@@ -50,7 +51,8 @@ impl BlockRow for Purchase {
     ghost traded = { side-of.Purchase };
 
     fn block(&self) -> Block {
-        self.block
+        let Purchase { block } = *self;
+        block
     }
 
     fn of(block: Block) -> Purchase {

@@ -121,7 +121,7 @@ impl ZoneCounts {
         ensures after { ZoneBecomes places.old.sales.now places.old.purchases.now (entered_in side bid (zone_held self places.old)) result places.new.sales.now places.new.purchases.now }
         ensures lent { SameZonePlaces places.old places.new }
     {
-        let block = Block { bid, matched: 0 };
+        let block = Block::unmatched(bid);
         match side {
             Side::Sale => {
                 let sales = enter_row(
@@ -262,7 +262,7 @@ impl Session {
     }
 }
 
-// Two checks and not one over a closure: the two tables of a zone are of two types, and a closure takes one.
+// Two checks and not one over a closure, of a zone and so of a session: the two tables of a zone are of two types, and a closure takes one.
 impl ZoneCounts {
     // Whether the tables of the zone are within their sizes.
     fn fits(self, sales: &[Sale], purchases: &[Purchase]) -> bool

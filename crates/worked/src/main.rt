@@ -61,7 +61,7 @@ fn matched_in<R: BlockRow + Record<Key = BlockKey>>(
 
 // What is matched of a lot, once it was cleared.
 fn matched(ladders: &Ladders, lot: &Lot) -> Option<u32> {
-    let ladder = match lot.zone {
+    let ladder = match Zone::try_from(lot.zone).ok()? {
         Zone::One => &ladders.one,
         Zone::Two => &ladders.two,
     };
@@ -74,7 +74,7 @@ fn matched(ladders: &Ladders, lot: &Lot) -> Option<u32> {
 
 fn enter(lots: &[Lot], ladders: &mut Ladders) -> Result<(), Refusal> {
     for lot in lots {
-        ladders.put(lot.zone, lot.side, bid_of(lot))?;
+        ladders.enter(lot.zone, lot.side, bid_of(lot))?;
     }
     Ok(())
 }
