@@ -30,12 +30,7 @@ impl Ledger {
         ensures after { Leaves accounts.old (Admits agent accounts.old self) result accounts.new }
     {
         let mut table = Table::new(accounts, self.accounts);
-        if !table.fits() {
-            return Err(Refusal::TableSize);
-        }
-        if !table.is_sound() {
-            return Err(Refusal::TableDisturbed);
-        }
+        table.check()?;
         if !agent_within(agent) {
             return Err(Refusal::OutsideLimits);
         }

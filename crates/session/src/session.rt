@@ -91,12 +91,7 @@ fn withdraw_row<R: Record<Key = BlockKey>>(
     ensures after { Leaves rows.old (Becomes (taken_out (kind R.order R.limits R.MAX) key (lent rows.old count))) result rows.new }
 {
     let mut table = Table { rows, count };
-    if !table.fits() {
-        return Err(Refusal::TableSize);
-    }
-    if !table.is_sound() {
-        return Err(Refusal::TableDisturbed);
-    }
+    table.check()?;
     if !key.within_limits() {
         return Err(Refusal::OutsideLimits);
     }
