@@ -310,7 +310,7 @@ impl<P: PriceRule, S: SharingRule> Cleared<P, S> {
         accounts: &mut [Account],
         entries: &mut [Entry],
     ) -> Result<(Idle<P, S>, Settled), Refused<Cleared<P, S>>>
-        ensures why { FirstCause (settle_causes (held_for self.session self.report (four_held blocks.now)) (blocks_held self.session blocks.now) (lent accounts.old self.ledger.accounts) entries.old self.ledger.income self.ledger.residue) (reason result) }
+        ensures why { FirstCause (settle_causes (held_for self.session self.report (four_held blocks.now)) (blocks_held self.session blocks.now) (lent accounts.old self.ledger.accounts) entries.old self.ledger.totals.income self.ledger.totals.residue) (reason result) }
         ensures after { SettlesFrom (held_for self.session self.report (four_held blocks.now)) self accounts.old entries.old result accounts.new entries.new }
         ensures step { ResultStep P.PriceRule.meaning S.SharingRule.meaning Settle settled_idle exchange.Cleared settling (exchange.Cleared self) (places_held blocks.now accounts.old entries.old) result (places_held blocks.now accounts.new entries.new) }
     {

@@ -18,9 +18,7 @@ pub struct Ledger {
     // How many accounts are counted.
     pub accounts: usize,
     pub last_session: u32,
-    // In cents.
-    pub income: i64,
-    pub residue: i64,
+    pub totals: Totals,
 }
 
 impl Ledger {
@@ -72,12 +70,8 @@ impl Ledger {
 
     // The ledger with another income and another residue.
     pub fn with_totals(self, totals: Totals) -> Ledger
-        ensures { result ≡ record { accounts = self.accounts; last_session = self.last_session; income = totals.income; residue = totals.residue } }
+        ensures { result ≡ record { accounts = self.accounts; last_session = self.last_session; totals = totals } }
     {
-        Ledger {
-            income: totals.income,
-            residue: totals.residue,
-            ..self
-        }
+        Ledger { totals, ..self }
     }
 }

@@ -35,6 +35,6 @@ returns-in-Err g c =
     let t : Four = four_held a.blocks.now in
     let before : Places = places_held a.blocks.now a.accounts.now a.entries.now in
     let later : Places = places_held a.blocks.now l.accounts l.entries in
-    let causes = settle_causes (held_for a.self.session a.self.report t) (blocks_held a.self.session a.blocks.now) (lent a.accounts.now a.self.ledger.accounts) a.entries.now a.self.ledger.income a.self.ledger.residue in
+    let causes = settle_causes (held_for a.self.session a.self.report t) (blocks_held a.self.session a.blocks.now) (lent a.accounts.now a.self.ledger.accounts) a.entries.now a.self.ledger.totals.income a.self.ledger.totals.residue in
     with_step (λ why after. cleared_settle g.P.PriceRule.meaning g.S.SharingRule.meaning g.met.S.SharingRule.lawful g.met.P.PriceRule.within a.self before later (Err _) why after refl)
     (err_as Settled (Idle g.row.P.Denot g.row.S.Denot × Settled) causes c.in-Err.why k.why) (refl, k.after.0, k.after.1)
