@@ -116,7 +116,7 @@ impl ZoneCounts {
         ensures after { ZoneBecomes places.old.sales.now places.old.purchases.now (entered_in side bid (zone_held self places.old)) result places.new.sales.now places.new.purchases.now }
         ensures lent { SameZonePlaces places.old places.new }
     {
-        let block = Block::unmatched(bid);
+        let block = Block { bid, matched: 0 };
         match side {
             Side::Sale => {
                 let sales = enter_row(
