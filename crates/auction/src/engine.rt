@@ -28,6 +28,7 @@ pub struct Engine<P, S> {
 }
 
 // What a clearing answers: the price of each zone, the flow from zone 1 to zone 2, and the surplus.
+// It is not the `Report` of a session, whose flow has the 32 bits that a settlement takes; here it is a difference of sums of 64 bits.
 #[derive(Clone, Copy, PartialEq, Eq)]
 pub struct Clearing {
     pub price_one: i32,
