@@ -159,7 +159,7 @@ module _ {P S : Type 0} (pricing : P → ℤ → ℤ → ℤ) (sharing : S → �
       let last = s.ledger.last_session in
       let at : ℤ → ℤ → Ledger = λ i j. record { accounts = n; last_session = last; totals = record { income = i; residue = j } } in
       let told = does.posted.0.reports in
-      let ledger : d.0.ledger ≡ at (s.ledger.totals.income +ℤ income_of o) (s.ledger.totals.residue +ℤ residue_of o) = does.ledger ∙ ap (λ i. at i d.1.total_residue) told.total_incomes ∙ ap (λ j. at (s.ledger.totals.income +ℤ income_of o) j) told.total_residues in
+      let ledger : d.0.ledger ≡ at (s.ledger.totals.income +ℤ income_of o) (s.ledger.totals.residue +ℤ residue_of o) = does.ledger ∙ ap (λ i. at i d.1.exchange.residue) told.total_incomes ∙ ap (λ j. at (s.ledger.totals.income +ℤ income_of o) j) told.total_residues in
       lawful e (accepted Settle ∷ h) (exchange.Idle d.0) u
       (cleared_settled pricing sharing e (shares e.sharing_rule) (prices e.price_rule) h s d.0 t u o refl does.engine k.0 k.1 ledger does.posted.1 l.after)
   cleared_settle s t u (Err f) why does p = refused_step Settle f.why (exchange.Cleared s) (exchange.Cleared f.state) t u (ap (λ (w : Cleared P S). exchange.Cleared w) does.0) (same_places t u p does.1 does.2)

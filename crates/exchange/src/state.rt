@@ -30,7 +30,6 @@ use session::report::Report;
 use session::session::Session;
 use settlement::entry::Entry;
 use settlement::settle::Settled;
-use settlement::totals::Totals;
 use table::view::View;
 
 mod wind_up;
@@ -330,12 +329,7 @@ impl<P: PriceRule, S: SharingRule> Cleared<P, S> {
                     session: _,
                     report: _,
                 } = self;
-                let Settled {
-                    total_income: income,
-                    total_residue: residue,
-                    ..
-                } = settled;
-                let ledger = ledger.with_totals(Totals { income, residue });
+                let ledger = ledger.with_totals(settled.exchange);
                 Ok((Idle { engine, ledger }, settled))
             }
             Err(why) => Err(Refused { state: self, why }),
