@@ -4,8 +4,7 @@ ghost use Rattle.market.specs.Refusals.{faulty, refusal_number, unplaced};
 ghost use Rattle.market.specs.Answers.{refusal_text};
 
 use std::fmt;
-use table::fault::Fault;
-use table::fault::Refusal as Unplaced;
+use table::fault::{Fault, Refusal as Unplaced};
 
 #[derive(Clone, Copy, PartialEq, Eq)]
 pub enum Refusal {
