@@ -1,8 +1,8 @@
 -- A walk along two curves, offer by offer.
-use Rattle.std.proofs.Common.{◌≡◌, ℕ, suc, ◌+◌, ◌-◌, ◌*◌, ◌<◌, ◌≤◌, ◌⊎◌, List, [], ◌∷◌, ◌++◌, length, get_or, drop, replicate, ℤ, pos, ◌≤ℤ◌, ◌<ℤ◌, sym, refl, ap, ◌∙◌, inl, inr, arith}
+use Rattle.std.proofs.Common.{◌≡◌, ℕ, suc, ◌+◌, ◌-◌, ◌*◌, ◌<◌, ◌≤◌, ◌⊎◌, List, [], ◌∷◌, ◌++◌, length, get_or, drop, replicate, ℤ, pos, ◌≤ℤ◌, ◌<ℤ◌, sym, ap, ◌∙◌, inl, inr, arith}
 use borrow.Author.Differences.{ints}
 use Rattle.std.specs.List.{AllByRecursion}
-use Rattle.std.proofs.lemmas.List.{drop_more, drop-drop, drop-append-le, drop-replicate, get_or-drop, get_or_append_left, get_or-replicate, length-replicate, length-append, length-drop}
+use Rattle.std.proofs.lemmas.List.{drop-drop, drop-append-le, drop-replicate, get_or-drop, get_or_append_left, get_or-replicate, length-replicate, length-append, length-drop}
 use Rattle.std.proofs.ByRecursion.{All-weaker}
 use Rattle.std.proofs.lemmas.Bool.{cases_lt}
 use Rattle.market.specs.Limits.{VolumeWithinLimits, PriceWithinLimits, lowest_price, highest_price}
@@ -11,11 +11,7 @@ use Rattle.auction.specs.Offers.{price_of, volume_of, of_sales, of_purchases, So
 use Rattle.auction.specs.Curve.{curve, behind, nth_price, Meet, Amount, amount, Crossed}
 use Rattle.auction.specs.Ready.{Ready}
 use Rattle.auction.proofs.Found.{amount_found}
-use Rattle.auction.proofs.Sides.{blank, rising, tenths, bid_cons}
-
--- the next offer taken up where no tenth is left
-pub taken_up : (os : List Offer) (i : ℕ) (p : ℤ) → i < length os → behind (volume_of (get_or os i blank)) (price_of (get_or os i blank)) (drop (i + 1) os) ≡ behind 0 p (drop i os)
-taken_up os i p h = rw (drop_more os i blank h) refl
+use Rattle.auction.proofs.Sides.{rising, tenths, bid_cons}
 
 -- q tenths along the curve c there are n tenths at the price p, and then the offers os
 abbrev pub Stands : List ℤ → ℕ → ℕ → ℤ → List Offer → Type 0
@@ -84,44 +80,49 @@ amount_only c d q r h k = let a = up_to q r h.reached k.largest in let b = up_to
     up_to m n (inl e) l = omega arith
     up_to m n (inr e) l = l m e
 
+-- every offer is of a volume within the limits
+abbrev pub Volumes : List Offer → Type 0
+Volumes os = AllByRecursion (λ x. VolumeWithinLimits (volume_of x)) os
+
 -- two sides walked q tenths: the cursors, and what the last tenths matched cost
-pub record Walked (k : ℕ) (o : ℤ) (ss : List Offer) (l : ℕ) (p : ℤ) (ps : List Offer) (q i n : ℕ) (a : ℤ) (j m : ℕ) (b : ℤ) (u v : ℤ) : Type 0 where
-  pub sale_inside : i ≤ length ss
-  pub purchase_inside : j ≤ length ps
-  pub sale_stands : Stands (behind k o ss) q n a (drop i ss)
-  pub purchase_stands : Stands (behind l p ps) q m b (drop j ps)
-  pub sale_ended : n ≡ 0 → drop i ss ≡ []
-  pub purchase_ended : m ≡ 0 → drop j ps ≡ []
-  pub reached : (q ≡ 0) ⊎ (Meet (behind k o ss) (behind l p ps) q × (nth_price (behind k o ss) q ≡ u) × (nth_price (behind l p ps) q ≡ v))
+pub record Walked (c d : List ℤ) (q : ℕ) (ss : List Offer) (n : ℕ) (a : ℤ) (ps : List Offer) (m : ℕ) (b : ℤ) (u v : ℤ) : Type 0 where
+  pub sale_volumes : Volumes ss
+  pub purchase_volumes : Volumes ps
+  pub sale_stands : Stands c q n a ss
+  pub purchase_stands : Stands d q m b ps
+  pub sale_ended : n ≡ 0 → ss ≡ []
+  pub purchase_ended : m ≡ 0 → ps ≡ []
+  pub reached : (q ≡ 0) ⊎ (Meet c d q × (nth_price c q ≡ u) × (nth_price d q ≡ v))
 
 -- the curves of a side are short enough to count
-curve_short : (os : List Offer) → AllByRecursion (λ x. VolumeWithinLimits (volume_of x)) os → length (curve os) ≤ 100000 * length os
+curve_short : (os : List Offer) → Volumes os → length (curve os) ≤ 100000 * length os
 curve_short [] h = omega arith
 curve_short (x ∷ os) (h, hs) = omega (arith, bid_cons x os, curve_short os hs)
 
-pub behind_short : (k : ℕ) (p : ℤ) (os : List Offer) → k ≤ 30000000 → AllByRecursion (λ x. VolumeWithinLimits (volume_of x)) os → length os ≤ 512 → length (behind k p os) ≤ 81200000
+pub behind_short : (k : ℕ) (p : ℤ) (os : List Offer) → k ≤ 30000000 → Volumes os → length os ≤ 512 → length (behind k p os) ≤ 81200000
 behind_short k p os h hs l = omega (arith, bid_cons (tenths k p) os, curve_short os hs)
 
 -- s more tenths, which meet, after which the cursors take up the next offers
-pub walk_more : (k : ℕ) (o : ℤ) (ss : List Offer) (l : ℕ) (p : ℤ) (ps : List Offer) (q i n : ℕ) (a : ℤ) (j m : ℕ) (b u v : ℤ) → Walked k o ss l p ps q i n a j m b u v →
+pub walk_more : (c d : List ℤ) (q : ℕ) (ss : List Offer) (n : ℕ) (a : ℤ) (ps : List Offer) (m : ℕ) (b u v : ℤ) → Walked c d q ss n a ps m b u v →
     (s : ℕ) → 1 ≤ s → s ≤ n → s ≤ m → a ≤ℤ b →
-    (i' n' : ℕ) (a' : ℤ) → i' ≤ length ss → behind n' a' (drop i' ss) ≡ behind (n - s) a (drop i ss) → (n' ≡ 0 → drop i' ss ≡ []) →
-    (j' m' : ℕ) (b' : ℤ) → j' ≤ length ps → behind m' b' (drop j' ps) ≡ behind (m - s) b (drop j ps) → (m' ≡ 0 → drop j' ps ≡ []) →
-    Walked k o ss l p ps (q + s) i' n' a' j' m' b' a b
-walk_more k o ss l p ps q i n a j m b u v w s h h₁ h₂ le i' n' a' inside same ended j' m' b' inside' same' ended' = record {
-  sale_inside = inside;
-  purchase_inside = inside';
-  sale_stands = steps (behind k o ss) q n s a (drop i ss) h₁ w.sale_stands ∙ sym same;
-  purchase_stands = steps (behind l p ps) q m s b (drop j ps) h₂ w.purchase_stands ∙ sym same';
+    (ss' : List Offer) (n' : ℕ) (a' : ℤ) → Volumes ss' → behind n' a' ss' ≡ behind (n - s) a ss → (n' ≡ 0 → ss' ≡ []) →
+    (ps' : List Offer) (m' : ℕ) (b' : ℤ) → Volumes ps' → behind m' b' ps' ≡ behind (m - s) b ps → (m' ≡ 0 → ps' ≡ []) →
+    Walked c d (q + s) ss' n' a' ps' m' b' a b
+walk_more c d q ss n a ps m b u v w s h h₁ h₂ le ss' n' a' volumes same ended ps' m' b' volumes' same' ended' = record {
+  sale_volumes = volumes;
+  purchase_volumes = volumes';
+  sale_stands = steps c q n s a ss h₁ w.sale_stands ∙ sym same;
+  purchase_stands = steps d q m s b ps h₂ w.purchase_stands ∙ sym same';
   sale_ended = ended;
   purchase_ended = ended';
-  reached = inr (walks_on (behind k o ss) (behind l p ps) q n m a b (drop i ss) (drop j ps) w.sale_stands w.purchase_stands s h h₁ h₂ le);
+  reached = inr (walks_on c d q n m a b ss ps w.sale_stands w.purchase_stands s h h₁ h₂ le);
 }
 
 -- where the walk stops, the amount is found with the prices of its last tenths
-pub walk_ends : (k : ℕ) (o : ℤ) (ss : List Offer) (l : ℕ) (p : ℤ) (ps : List Offer) (q i n : ℕ) (a : ℤ) (j m : ℕ) (b u v : ℤ) → Walked k o ss l p ps q i n a j m b u v →
-    Sorted of_sales (tenths k o ∷ ss) → Sorted of_purchases (tenths l p ∷ ps) → (Meet (behind k o ss) (behind l p ps) (suc q) → ⊥) → Crossed (behind k o ss) (behind l p ps) q u v
-walk_ends k o ss l p ps q i n a j m b u v w rises falls stop = record {
+pub walk_ends : (k : ℕ) (o : ℤ) (ss : List Offer) (l : ℕ) (p : ℤ) (ps : List Offer) (q : ℕ) (ss' : List Offer) (n : ℕ) (a : ℤ) (ps' : List Offer) (m : ℕ) (b u v : ℤ) →
+    Walked (behind k o ss) (behind l p ps) q ss' n a ps' m b u v → Sorted of_sales (tenths k o ∷ ss) → Sorted of_purchases (tenths l p ∷ ps) →
+    (Meet (behind k o ss) (behind l p ps) (suc q) → ⊥) → Crossed (behind k o ss) (behind l p ps) q u v
+walk_ends k o ss l p ps q ss' n a ps' m b u v w rises falls stop = record {
   found = amount_only c d q (amount c d) (amount_by_next (tenths k o ∷ ss) (tenths l p ∷ ps) q rises falls (met w.reached) stop) (amount_found c d);
   sale = λ h. sale_at h w.reached;
   purchase = λ h. purchase_at h w.reached;

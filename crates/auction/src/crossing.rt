@@ -1,5 +1,5 @@
 // Where the curves of the two sides meet.
-ghost use Rattle.std.specs.Prelude.{◌≡◌, ◌-◌, ◌≤◌, [], length, drop};
+ghost use Rattle.std.specs.Prelude.{◌≡◌, ◌-◌, ◌≤◌, []};
 ghost use Rattle.std.specs.List.{AllByRecursion};
 ghost use Rattle.market.specs.Limits.{VolumeWithinLimits, lowest_price, highest_price};
 ghost use Rattle.auction.specs.Curve.{Crossed, behind};
@@ -10,10 +10,10 @@ use crate::offer::Offer;
 use crate::pool::Carried;
 use market::limits::{MAX_PRICE, MIN_PRICE};
 
-// A place on a curve: `left` tenths at `price`, and then the offers from `next` on.
+// A place on a curve: `left` tenths at `price`, and then the offers.
 #[derive(Clone, Copy)]
-struct Cursor {
-    next: usize,
+struct Cursor<'a> {
+    offers: &'a [Offer],
     left: u32,
     price: i32,
 }
@@ -27,36 +27,34 @@ pub struct Crossing {
 }
 
 // The same place, with the next offer taken up where no tenth is left.
-fn filled(cursor: Cursor, offers: &[Offer]) -> Cursor
-    requires counted { cursor.next ≤ length offers.now }
-    requires bids { AllByRecursion (λ o. VolumeWithinLimits (volume_of o)) offers.now }
-    ensures inside { result.next ≤ length offers.now }
-    ensures same { behind result.left result.price (drop result.next offers.now) ≡ behind cursor.left cursor.price (drop cursor.next offers.now) }
-    ensures ended { result.left ≡ 0 → drop result.next offers.now ≡ [] }
+fn filled(cursor: Cursor<'_>) -> Cursor<'_>
+    requires bids { AllByRecursion (λ o. VolumeWithinLimits (volume_of o)) cursor.offers.now }
+    ensures bids { AllByRecursion (λ o. VolumeWithinLimits (volume_of o)) result.offers.now }
+    ensures same { behind result.left result.price result.offers.now ≡ behind cursor.entry.left cursor.entry.price cursor.entry.offers.now }
+    ensures ended { result.left ≡ 0 → result.offers.now ≡ [] }
 {
     if cursor.left > 0 {
         return cursor;
     }
-    if cursor.next == offers.len() {
-        return cursor;
+    if let Some((first, rest)) = cursor.offers.split_first() {
+        let bid = first.block.bid;
+        return Cursor {
+            offers: rest,
+            left: bid.volume,
+            price: bid.price,
+        };
     }
-    let bid = offers[cursor.next].block.bid;
-    Cursor {
-        next: cursor.next + 1,
-        left: bid.volume,
-        price: bid.price,
-    }
+    cursor
 }
 
 // The same place, `step` tenths further on.
-fn passed(cursor: Cursor, step: u32) -> Cursor
+fn passed(cursor: Cursor<'_>, step: u32) -> Cursor<'_>
     requires { step ≤ cursor.left }
-    ensures { result ≡ record { next = cursor.next; left = cursor.left - step; price = cursor.price } }
+    ensures { result ≡ record { offers = cursor.entry.offers; left = cursor.entry.left - step; price = cursor.entry.price } }
 {
     Cursor {
-        next: cursor.next,
         left: cursor.left - step,
-        price: cursor.price,
+        ..cursor
     }
 }
 
@@ -70,29 +68,23 @@ pub(crate) fn find_crossing(sales: &[Offer], purchases: &[Offer], carried: Carri
     let mut amount: u32 = 0;
     let mut last_sale = MIN_PRICE;
     let mut last_purchase = MAX_PRICE;
-    let mut sale = filled(
-        Cursor {
-            next: 0,
-            left: carried.brought,
-            price: MIN_PRICE,
-        },
-        sales,
-    );
-    let mut purchase = filled(
-        Cursor {
-            next: 0,
-            left: carried.taken,
-            price: MAX_PRICE,
-        },
-        purchases,
-    );
+    let mut sale = filled(Cursor {
+        offers: sales,
+        left: carried.brought,
+        price: MIN_PRICE,
+    });
+    let mut purchase = filled(Cursor {
+        offers: purchases,
+        left: carried.taken,
+        price: MAX_PRICE,
+    });
     while sale.left > 0 && purchase.left > 0 && sale.price <= purchase.price {
         let step = sale.left.min(purchase.left);
         amount += step;
         last_sale = sale.price;
         last_purchase = purchase.price;
-        sale = filled(passed(sale, step), sales);
-        purchase = filled(passed(purchase, step), purchases);
+        sale = filled(passed(sale, step));
+        purchase = filled(passed(purchase, step));
     }
     Crossing {
         amount,

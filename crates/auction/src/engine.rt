@@ -28,6 +28,7 @@ pub struct Engine<P, S> {
 }
 
 // What a clearing answers: the price of each zone, the flow from zone 1 to zone 2, and the surplus.
+// It is not the `Report` of a session, whose flow has the 32 bits that a settlement takes; here it is a difference of sums of 64 bits.
 #[derive(Clone, Copy, PartialEq, Eq)]
 pub struct Clearing {
     pub price_one: i32,
@@ -144,8 +145,8 @@ impl<P: PriceRule, S: SharingRule> Engine<P, S> {
 
     // Clears one period: writes what is matched of each block into the tables, and answers prices, flow and surplus. Whatever the two
     // rules, the matched volumes are a balanced schedule that the prices support, and no schedule of these blocks is better.
-    // The slices come one by one: where a struct that holds structs of `&mut [T]` is passed, no caller's proof learns what its own
-    // slices hold afterwards.
+    // The slices come one by one: callers cut off the counted parts of slices in their own `BlockPlaces`, and the borrow checker does not
+    // cover such parts in a second struct ("a call keeps the loan of a slice in a field while another field is used").
     pub fn clear<'a>(
         &self,
         sales_one: &'a mut [Sale],

@@ -13,6 +13,14 @@ use market::zone::Side;
 use rules::sharing::SharingRule;
 use std::cmp::Ordering;
 
+// What is given of the tenths at the marginal price: `amount` of the `tied` ones.
+#[derive(Clone, Copy)]
+struct Shared {
+    amount: u32,
+    tied: u32,
+    ghost enough: { amount ≤ tied },
+}
+
 // The volume, as tenths ahead of the marginal price and as tenths at it.
 fn counted(place: Ordering, volume: u32) -> (u32, u32)
     ensures { result ≡ (by_place volume 0 0 place, by_place 0 volume 0 place) }
@@ -44,19 +52,16 @@ fn standing(offers: &[Offer], side: Side, marginal: i32) -> (u32, u32)
     (ahead, tied)
 }
 
-// What is matched of a block, and how many tied tenths are passed after it: `amount` of `tied` tenths are shared, and `passed` of them
-// are ahead of it.
+// What is matched of a block, and how many tied tenths are passed after it, where `passed` of them are ahead of it.
 fn part<S: SharingRule>(
     rule: &S,
     place: Ordering,
     volume: u32,
-    amount: u32,
-    tied: u32,
+    shared: Shared,
     passed: u32,
 ) -> (u32, u32)
-    requires enough { amount ≤ tied }
-    requires room { place ≡ Equal → passed + volume ≤ tied }
-    ensures matched { result.0 ≡ by_place volume (S.SharingRule.meaning rule.now amount tied (passed + volume) - S.SharingRule.meaning rule.now amount tied passed) 0 place }
+    requires room { place ≡ Equal → passed + volume ≤ shared.tied }
+    ensures matched { result.0 ≡ by_place volume (S.SharingRule.meaning rule.now shared.amount shared.tied (passed + volume) - S.SharingRule.meaning rule.now shared.amount shared.tied passed) 0 place }
     ensures next { result.1 ≡ by_place passed (passed + volume) passed place }
 {
     match place {
@@ -64,7 +69,8 @@ fn part<S: SharingRule>(
         Ordering::Equal => {
             let next = passed + volume;
             (
-                rule.given(amount, tied, next) - rule.given(amount, tied, passed),
+                rule.given(shared.amount, shared.tied, next)
+                    - rule.given(shared.amount, shared.tied, passed),
                 next,
             )
         }
@@ -72,23 +78,21 @@ fn part<S: SharingRule>(
     }
 }
 
-// Matches a side: blocks before the marginal price whole, `amount` of the `tied` tenths at it, and none behind it.
+// Matches a side: blocks before the marginal price whole, those at it by what is shared, and none behind it.
 fn fill_offers<S: SharingRule>(
     rule: &S,
     offers: &mut [Offer],
     side: Side,
     marginal: i32,
-    amount: u32,
-    tied: u32,
+    shared: Shared,
 )
-    requires enough { amount ≤ tied }
-    requires tied { tied ≡ tie (rank_of side) (rank_of side marginal) offers.old }
-    ensures { offers.new ≡ fill (S.SharingRule.meaning rule.now) (rank_of side) (rank_of side marginal) amount tied 0 offers.old }
+    requires { shared.tied ≡ tie (rank_of side) (rank_of side marginal) offers.old }
+    ensures { offers.new ≡ fill (S.SharingRule.meaning rule.now) (rank_of side) (rank_of side marginal) shared.amount shared.tied 0 offers.old }
 {
     let mut passed: u32 = 0;
     for offer in offers.iter_mut() {
         let place = place_of(side, marginal, offer.block.bid.price);
-        let (matched, next) = part(rule, place, offer.block.bid.volume, amount, tied, passed);
+        let (matched, next) = part(rule, place, offer.block.bid.volume, shared, passed);
         offer.block.matched = matched;
         passed = next;
     }
@@ -126,5 +130,9 @@ pub(crate) fn match_offers<S: SharingRule>(
         return;
     }
     let (ahead, tied) = standing(offers, side, marginal);
-    fill_offers(rule, offers, side, marginal, amount - (first + ahead), tied);
+    let shared = Shared {
+        amount: amount - (first + ahead),
+        tied,
+    };
+    fill_offers(rule, offers, side, marginal, shared);
 }

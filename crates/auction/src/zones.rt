@@ -26,6 +26,8 @@ fn load<R: BlockRow>(zone: Zone, rows: &[R], offers: &mut [Offer])
 }
 
 // Clears the two zones as one, in the places of `sold` and `bought`, and answers the bracket.
+// The two stay two parameters, here and in the engine: with both in a struct the proof of `clear_common` did not close, since nothing tied
+// what it read through the struct afterwards to what this function left there.
 pub(crate) fn clear_together<S: SharingRule>(
     rule: &S,
     one: &ZonePlaces,

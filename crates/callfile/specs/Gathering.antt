@@ -1,5 +1,5 @@
 -- What a line buffer holds. A reader must believe that `gathered` is what a program may keep of a line: all of it, or
--- nothing if it has more than 120 bytes.
+-- nothing if it has more than 120 bytes; and that `items` of an array vector are the bytes put into it.
 use Rattle.std.specs.Prelude.{◌≡◌, ℕ, cond, List, [], ◌∷◌, ◌++◌, length, Some, None, Option, nat_le}
 use Rattle.std.specs.Option.{option_map}
 use Rattle.callfile.specs.declared.line.LineBuffer.{LineBuffer}

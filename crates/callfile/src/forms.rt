@@ -10,6 +10,7 @@ use market::block::{Bid, BlockKey};
 use market::call::Call;
 use market::zone::Side;
 
+// No `match` on the name, for the reason given at `call_named`.
 fn side_named(name: &[u8]) -> Option<Side>
     ensures { result ≡ side_named name.now }
 {
@@ -109,8 +110,8 @@ fn withdraw(line: &[u8]) -> Option<(Call, &[u8])>
     Some((Call::Withdraw { zone, side, key }, rest))
 }
 
-// The call of that name, from what follows the name. It is no match: the proof of its last arm would have a case for each
-// byte at which the names part.
+// The call of that name, from what follows the name. As a `match` it was not proved: its last arm has a case for each byte at which the
+// names part.
 fn call_named<'a>(name: &[u8], line: &'a [u8]) -> Option<(Call, &'a [u8])>
     ensures { option_map with_rest result ≡ call_named name.now line.now }
 {

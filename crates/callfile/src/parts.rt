@@ -62,7 +62,7 @@ pub fn word(line: &[u8]) -> Option<(&[u8], &[u8])>
     }
 }
 
-// The text of a number, which may be no numeral. It differs from `word` in a pattern alone, and no parameter can stand for one.
+// The text of a number, which may be no numeral. It differs from `word` in a pattern alone: a closure in its place would be a `match` too.
 fn number(line: &[u8]) -> Option<(&[u8], &[u8])>
     ensures { option_map word_with result ≡ value_of Some line.now }
 {

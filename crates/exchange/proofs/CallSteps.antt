@@ -149,17 +149,17 @@ module _ {P S : Type 0} (pricing : P → ℤ → ℤ → ℤ) (sharing : S → �
   closed_clear s t u (Err f) does p q = refused_step Clear f.why (exchange.Closed s) (exchange.Closed f.state) t u (ap (λ (w : Closed P S). exchange.Closed w) does.0) (same_places t u does.1 p q)
 
   pub cleared_settle : (s : Cleared P S) (t u : Places) (r : Result (Idle P S × Settled) (Refused (Cleared P S))) →
-      FirstCause (settle_causes (held_for s.session s.report (four_in t)) (blocks_at s.session (four_in t)) (lent t.accounts s.ledger.accounts) t.entries s.ledger.income s.ledger.residue) (reason r) →
+      FirstCause (settle_causes (held_for s.session s.report (four_in t)) (blocks_at s.session (four_in t)) (lent t.accounts s.ledger.accounts) t.entries s.ledger.totals.income s.ledger.totals.residue) (reason r) →
       SettlesFrom (held_for s.session s.report (four_in t)) s t.accounts t.entries r u.accounts u.entries → four_in u ≡ four_in t →
       ResultStep pricing sharing Settle settled_idle exchange.Cleared settling (exchange.Cleared s) t r u
   cleared_settle s t u (Ok d) why does p = λ e h l.
       let o : settled.Outcome = held_for s.session s.report (four_in t) in
-      let k = accepted_settle o (blocks_at s.session (four_in t)) (lent t.accounts s.ledger.accounts) t.entries s.ledger.income s.ledger.residue d why in
+      let k = accepted_settle o (blocks_at s.session (four_in t)) (lent t.accounts s.ledger.accounts) t.entries s.ledger.totals.income s.ledger.totals.residue d why in
       let n = s.ledger.accounts in
       let last = s.ledger.last_session in
-      let at : ℤ → ℤ → Ledger = λ i j. record { accounts = n; last_session = last; income = i; residue = j } in
+      let at : ℤ → ℤ → Ledger = λ i j. record { accounts = n; last_session = last; totals = record { income = i; residue = j } } in
       let told = does.posted.0.reports in
-      let ledger : d.0.ledger ≡ at (s.ledger.income +ℤ income_of o) (s.ledger.residue +ℤ residue_of o) = does.ledger ∙ ap (λ i. at i d.1.total_residue) told.total_incomes ∙ ap (λ j. at (s.ledger.income +ℤ income_of o) j) told.total_residues in
+      let ledger : d.0.ledger ≡ at (s.ledger.totals.income +ℤ income_of o) (s.ledger.totals.residue +ℤ residue_of o) = does.ledger ∙ ap (λ i. at i d.1.exchange.residue) told.total_incomes ∙ ap (λ j. at (s.ledger.totals.income +ℤ income_of o) j) told.total_residues in
       lawful e (accepted Settle ∷ h) (exchange.Idle d.0) u
       (cleared_settled pricing sharing e (shares e.sharing_rule) (prices e.price_rule) h s d.0 t u o refl does.engine k.0 k.1 ledger does.posted.1 l.after)
   cleared_settle s t u (Err f) why does p = refused_step Settle f.why (exchange.Cleared s) (exchange.Cleared f.state) t u (ap (λ (w : Cleared P S). exchange.Cleared w) does.0) (same_places t u p does.1 does.2)

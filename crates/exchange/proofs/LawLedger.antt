@@ -81,8 +81,8 @@ module _ {P S : Type 0} (pricing : P → ℤ → ℤ → ℤ) (sharing : S → �
         accounts = subst₂ (λ (n : ℕ) (ys : List Account). Holding (lent ys n) (with_row account_order (new_account agent) xs)) (sym (ap (λ (r : Ledger). r.accounts) is)) (sym put) held;
         sound = admitted_sound agent xs limits absent a.sound;
         number = ap (λ (r : Ledger). r.last_session) is ∙ a.number;
-        income = ap (λ (r : Ledger). r.income) is ∙ a.income;
-        residue = ap (λ (r : Ledger). r.residue) is ∙ a.residue;
+        income = ap (λ (r : Ledger). r.totals.income) is ∙ a.income;
+        residue = ap (λ (r : Ledger). r.totals.residue) is ∙ a.residue;
         adds_up = admitted_adds agent (carried_by pricing sharing e h) a.adds_up;
         residues = a.residues;
       }
@@ -90,7 +90,7 @@ module _ {P S : Type 0} (pricing : P → ℤ → ℤ → ℤ) (sharing : S → �
   -- the entries of the session posted
   pub ledger_settled : (h : History) (l m : Ledger) (t u : Places) → Balanced (to_settle (outcome_by pricing sharing e h)) → KnownAgents (to_settle (outcome_by pricing sharing e h)) (carried_by pricing sharing e h).accounts →
       AllByRecursion (λ a. PositionWithinLimits a.position) (accounts_after (to_settle (outcome_by pricing sharing e h)) (carried_by pricing sharing e h).accounts) →
-      m.last_session ≡ l.last_session → m.income ≡ (carried_by pricing sharing e (accepted Settle ∷ h)).income → m.residue ≡ (carried_by pricing sharing e (accepted Settle ∷ h)).residue →
+      m.last_session ≡ l.last_session → m.totals.income ≡ (carried_by pricing sharing e (accepted Settle ∷ h)).income → m.totals.residue ≡ (carried_by pricing sharing e (accepted Settle ∷ h)).residue →
       Holding (lent u.accounts m.accounts) (accounts_after (to_settle (outcome_by pricing sharing e h)) (carried_by pricing sharing e h).accounts) →
       LedgerAfter pricing sharing e h l t → LedgerAfter pricing sharing e (accepted Settle ∷ h) m u
   ledger_settled h l m t u balanced known limits number income residue held a = record {

@@ -242,8 +242,8 @@ module _ {P S : Type 0} (pricing : P → ℤ → ℤ → ℤ) (sharing : S → �
   -- ---- settle
   module _ (shares : Shares (sharing e.sharing_rule)) (prices : Prices (pricing e.price_rule)) where
     pub cleared_settled : (h : History) (s : Cleared P S) (s' : Idle P S) (t u : Places) (o : Outcome) → o ≡ held_session (blocks_in s.session t) s.report → s'.engine ≡ s.engine →
-        KnownAgents o (rows_of (lent t.accounts s.ledger.accounts)) → WithinLimits o (rows_of (lent t.accounts s.ledger.accounts)) s.ledger.income s.ledger.residue →
-        s'.ledger ≡ record { accounts = s.ledger.accounts; last_session = s.ledger.last_session; income = s.ledger.income +ℤ income_of o; residue = s.ledger.residue +ℤ residue_of o } →
+        KnownAgents o (rows_of (lent t.accounts s.ledger.accounts)) → WithinLimits o (rows_of (lent t.accounts s.ledger.accounts)) s.ledger.totals.income s.ledger.totals.residue →
+        s'.ledger ≡ record { accounts = s.ledger.accounts; last_session = s.ledger.last_session; totals = record { income = s.ledger.totals.income +ℤ income_of o; residue = s.ledger.totals.residue +ℤ residue_of o } } →
         u.accounts ≡ accounts_after o (rows_of (lent t.accounts s.ledger.accounts)) ++ drop s.ledger.accounts t.accounts →
         AfterCleared pricing sharing e h s t → AfterIdle pricing sharing e (accepted Settle ∷ h) s' u
     cleared_settled h s s' t u o held engines known within ledgers posted a =
@@ -265,8 +265,8 @@ module _ {P S : Type 0} (pricing : P → ℤ → ℤ → ℤ) (sharing : S → �
               (subst₂ (λ (x : Outcome) (zs : List Account). KnownAgents x zs) q r known)
               (subst₂ (λ (x : Outcome) (zs : List Account). AllByRecursion (λ b. PositionWithinLimits b.position) (accounts_after x zs)) q r within.positions)
               (ap (λ (l : Ledger). l.last_session) ledgers)
-              (ap (λ (l : Ledger). l.income) ledgers ∙ ap (λ i. i +ℤ income_of o) a.ledger.income ∙ ap (λ (x : Outcome). (carried_by pricing sharing e h).income +ℤ income_of x) q)
-              (ap (λ (l : Ledger). l.residue) ledgers ∙ ap (λ i. i +ℤ residue_of o) a.ledger.residue ∙ ap (λ (x : Outcome). (carried_by pricing sharing e h).residue +ℤ residue_of x) q)
+              (ap (λ (l : Ledger). l.totals.income) ledgers ∙ ap (λ i. i +ℤ income_of o) a.ledger.income ∙ ap (λ (x : Outcome). (carried_by pricing sharing e h).income +ℤ income_of x) q)
+              (ap (λ (l : Ledger). l.totals.residue) ledgers ∙ ap (λ i. i +ℤ residue_of o) a.ledger.residue ∙ ap (λ (x : Outcome). (carried_by pricing sharing e h).residue +ℤ residue_of x) q)
               (subst₂ (λ (x : Outcome) (zs : List Account). Holding (lent u.accounts s'.ledger.accounts) (accounts_after x zs)) q r counted)
               a.ledger;
         }

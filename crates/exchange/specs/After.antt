@@ -73,8 +73,8 @@ module _ {P S : Type 0} (pricing : P → ℤ → ℤ → ℤ) (sharing : S → �
     pub accounts : Holding (lent t.accounts l.accounts) carried_by.accounts
     pub sound : SoundRows account_kind carried_by.accounts
     pub number : l.last_session ≡ (begun h).number
-    pub income : l.income ≡ carried_by.income
-    pub residue : l.residue ≡ carried_by.residue
+    pub income : l.totals.income ≡ carried_by.income
+    pub residue : l.totals.residue ≡ carried_by.residue
     pub adds_up : AddsToZero carried_by
     pub residues : ResiduesSmall (sharing e.sharing_rule) (pricing e.price_rule) h
 

@@ -135,7 +135,7 @@ module _ {P S : Type 0} where
     ClearedDoes s t Clear y a u = OfAnotherState (exchange.Cleared s) t y a u
     ClearedDoes s t Settle y a u =
         (r : Result (Idle P S × Settled) (Refused (Cleared P S)))
-        × FirstCause (settle_causes (held_for s.session s.report (four_in t)) (blocks_at s.session (four_in t)) (lent t.accounts s.ledger.accounts) t.entries s.ledger.income s.ledger.residue) (reason r)
+        × FirstCause (settle_causes (held_for s.session s.report (four_in t)) (blocks_at s.session (four_in t)) (lent t.accounts s.ledger.accounts) t.entries s.ledger.totals.income s.ledger.totals.residue) (reason r)
         × SettlesFrom (held_for s.session s.report (four_in t)) s t.accounts t.entries r u.accounts u.entries
         × (four_in u ≡ four_in t)
         × ComesTo settled_idle exchange.Cleared settling r y a

@@ -89,7 +89,7 @@ module _ {P S : Type 0} where
   -- the entries are written and posted, and the exchange is idle
   pub record SettledFrom (o : settled.Outcome) (s : Cleared P S) (xs : List Account) (es : List Entry) (d : Idle P S × Settled) (ys : List Account) (fs : List Entry) : Type 0 where
     pub engine : d.0.engine ≡ s.engine
-    pub ledger : d.0.ledger ≡ record { accounts = s.ledger.accounts; last_session = s.ledger.last_session; income = d.1.total_income; residue = d.1.total_residue }
+    pub ledger : d.0.ledger ≡ record { accounts = s.ledger.accounts; last_session = s.ledger.last_session; totals = d.1.exchange }
     pub posted : Posts o s.ledger xs es (Ok d.1) ys fs
 
   abbrev pub SettlesFrom : settled.Outcome → Cleared P S → List Account → List Entry → Result (Idle P S × Settled) (Refused (Cleared P S)) → List Account → List Entry → Type 0

@@ -56,8 +56,8 @@ module _ {P S : Type 0} (pricing : P → ℤ → ℤ → ℤ) (sharing : S → �
     pub one_account : (agent : ℕ) → accounts_of_agent agent (rows_of (lent t.accounts l.accounts)) ≡ cond (admitted agent h) 1 0
     -- positions, income and residue are what is posted for the schedules settled so far
     pub positions : rows_of (lent t.accounts l.accounts) ≡ (carried_by pricing sharing e h).accounts
-    pub income : l.income ≡ (carried_by pricing sharing e h).income
-    pub residue : l.residue ≡ (carried_by pricing sharing e h).residue
+    pub income : l.totals.income ≡ (carried_by pricing sharing e h).income
+    pub residue : l.totals.residue ≡ (carried_by pricing sharing e h).residue
     pub adds_up : AddsToZero (carried_by pricing sharing e h)
     pub residues : ResiduesSmall (sharing e.sharing_rule) (pricing e.price_rule) h
 

@@ -45,6 +45,8 @@ pub(crate) fn apply_idle<P: PriceRule, S: SharingRule>(
     }
 }
 
+// The places of the blocks are taken out of `lent` in three calls: a function that handed them on could not promise what `lent` holds
+// after them.
 pub(crate) fn apply_open<P: PriceRule, S: SharingRule>(
     state: Open<P, S>,
     lent: &mut Lent<'_>,
@@ -113,9 +115,7 @@ pub(crate) fn apply_cleared<P: PriceRule, S: SharingRule>(
         purchases_two: &mut *lent.purchases_two,
     };
     match call {
-        Call::Settle => {
-            come_to(state.settle(&blocks, &mut *lent.accounts, &mut *lent.entries))
-        }
+        Call::Settle => { come_to(state.settle(&blocks, &mut *lent.accounts, &mut *lent.entries)) }
         Call::Annul => state.annul().onward(),
         _ => of_another_state(Exchange::Cleared(state)),
     }

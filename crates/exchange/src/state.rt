@@ -19,7 +19,6 @@ ghost use Rattle.exchange.specs.declared.exchange.Exchange.TheVariants as exchan
 use auction::engine::Engine;
 use market::account::Account;
 use market::block::{Bid, BlockKey};
-use market::capacities::Capacities;
 use market::places::BlockPlaces;
 use market::refusal::Refusal;
 use market::zone::Side;
@@ -31,13 +30,12 @@ use session::report::Report;
 use session::session::Session;
 use settlement::entry::Entry;
 use settlement::settle::Settled;
-use settlement::totals::Totals;
 use table::view::View;
 
 mod wind_up;
 
-// Four types, and not one over a stage, so that the compiler names the state and the calls that it has (docs/ARCHITECTURE.md); `admit` and
-// `annul` are written for each.
+// Four types by the project's rule, so that the compiler names the state and the calls that it has (docs/ARCHITECTURE.md): `admit` is
+// written for two of them, and `annul` for three.
 pub struct Idle<P, S> {
     engine: Engine<P, S>,
     ledger: Ledger,
@@ -72,7 +70,7 @@ fn between_sessions<P, S>(engine: Engine<P, S>, carried: Ledger) -> Idle<P, S>
     }
 }
 
-// A refusal, and the state as it was.
+// A refusal, and the state as it was. Each call hands it on by a `match`, since a `?` would let the state go.
 pub struct Refused<T> {
     pub state: T,
     pub why: Refusal,
@@ -311,7 +309,7 @@ impl<P: PriceRule, S: SharingRule> Cleared<P, S> {
         accounts: &mut [Account],
         entries: &mut [Entry],
     ) -> Result<(Idle<P, S>, Settled), Refused<Cleared<P, S>>>
-        ensures why { FirstCause (settle_causes (held_for self.session self.report (four_held blocks.now)) (blocks_held self.session blocks.now) (lent accounts.old self.ledger.accounts) entries.old self.ledger.income self.ledger.residue) (reason result) }
+        ensures why { FirstCause (settle_causes (held_for self.session self.report (four_held blocks.now)) (blocks_held self.session blocks.now) (lent accounts.old self.ledger.accounts) entries.old self.ledger.totals.income self.ledger.totals.residue) (reason result) }
         ensures after { SettlesFrom (held_for self.session self.report (four_held blocks.now)) self accounts.old entries.old result accounts.new entries.new }
         ensures step { ResultStep P.PriceRule.meaning S.SharingRule.meaning Settle settled_idle exchange.Cleared settling (exchange.Cleared self) (places_held blocks.now accounts.old entries.old) result (places_held blocks.now accounts.new entries.new) }
     {
@@ -331,12 +329,7 @@ impl<P: PriceRule, S: SharingRule> Cleared<P, S> {
                     session: _,
                     report: _,
                 } = self;
-                let Settled {
-                    total_income: income,
-                    total_residue: residue,
-                    ..
-                } = settled;
-                let ledger = ledger.with_totals(Totals { income, residue });
+                let ledger = ledger.with_totals(settled.exchange);
                 Ok((Idle { engine, ledger }, settled))
             }
             Err(why) => Err(Refused { state: self, why }),

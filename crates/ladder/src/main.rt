@@ -50,6 +50,7 @@ fn show<W: Write>(out: &mut W, zone: Zone, ladder: &Ladder) -> io::Result<()> {
 
 fn main(rt: HostRuntime) -> anyhow::Result<()> {
     let heap = rt.alloc();
+    // Four by name: a ladder borrows two, and a value that held all four would have to lend them one by one.
     let mut sales_one = vec![in heap; Sale::default(); PLACES]?;
     let mut purchases_one = vec![in heap; Purchase::default(); PLACES]?;
     let mut sales_two = vec![in heap; Sale::default(); PLACES]?;

@@ -19,6 +19,7 @@ pub fn answer_line<P: PriceRule, S: SharingRule>(
     ensures answers { AnswersLine P.PriceRule.meaning S.SharingRule.meaning (option_map (λ x. x.now) line.entry) exchange (held_in lent.old) result.0 result.1 (held_in lent.new) }
     ensures lent { SameLent lent.old lent.new }
 {
+    // No `line.and_then(read_call)`: from that the check does not find that the call is the one whose text the line is.
     let Some(bytes) = line else {
         return (exchange, Answer::Refused(Refusal::NoForm));
     };

@@ -1,6 +1,8 @@
 -- The refusals, their numbers, and which of several causes decides.
 -- To believe: the numbers, and that a call is refused for the first cause in the order that holds, and for no other.
 use Rattle.std.specs.Prelude.{◌≡◌, ℕ, List, [], ◌∷◌, Ok, Err, Result}
+use Rattle.table.specs.declared.fault.Fault.{Fault}
+use Rattle.table.specs.declared.fault.Fault.TheVariants.{Size, Disturbed}
 use Rattle.table.specs.declared.fault.Refusal as table
 use Rattle.table.specs.declared.fault.Refusal.TheVariants.{Taken, Full}
 use Rattle.market.specs.declared.refusal.Refusal.{Refusal}
@@ -22,6 +24,11 @@ refusal_number EntryPlaces = 12
 refusal_number PositionLimit = 13
 refusal_number NoForm = 14
 refusal_number WrongState = 15
+
+-- the refusal of a table that is not sound
+abbrev pub faulty : Fault → Refusal
+faulty Size = TableSize
+faulty Disturbed = TableDisturbed
 
 -- the refusal of a row that a table does not take
 abbrev pub unplaced : table.Refusal → Refusal

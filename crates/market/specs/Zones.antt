@@ -1,4 +1,5 @@
--- The numbers of the zones, and how zones and sides are printed. To believe: zone One is zone 1, and zone Two is zone 2.
+-- The numbers of the zones, and how zones and sides are printed. To believe: zone One is zone 1, zone Two is zone 2, and a side is
+-- printed by its own word.
 use Rattle.std.specs.Prelude.{◌≡◌, ℕ, List, codes, Result, MatchResult, ◌≢◌}
 use Rattle.market.specs.declared.refusal.Refusal.{Refusal}
 use Rattle.market.specs.declared.refusal.Refusal.TheVariants.{OutsideLimits}

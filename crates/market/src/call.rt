@@ -13,6 +13,7 @@ pub enum Call {
         forward: u32,
         backward: u32,
     },
+    // The zone is the number that is written: where no zone has it, the call is refused, and the line is a form all the same.
     Enter {
         zone: u32,
         side: Side,

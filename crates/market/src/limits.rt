@@ -1,4 +1,5 @@
-// The limits of each field of a record (docs/MARKET.md).
+// The limits of each field of a record (docs/MARKET.md). A function for each, and not one over a range: a call then names the limit
+// (`stamp_within(stamp)`) where it would spell the range.
 ghost use Rattle.std.specs.Prelude.{Decides};
 ghost use Rattle.market.specs.Limits.{AgentWithinLimits, NumberWithinLimits, PositionWithinLimits, PriceWithinLimits, StampWithinLimits, UnitWithinLimits, VolumeWithinLimits};
 

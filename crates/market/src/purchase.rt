@@ -1,4 +1,4 @@
-// A purchase block as a row of a table: the dearest comes first.
+// A purchase block as a row of a table: the dearest comes first. It is a type of its own, as `Sale` says.
 ghost use Rattle.market.specs.Limits.{BlockWithinLimits};
 ghost use Rattle.std.specs.Prelude.{◌<◌, neg_ℤ};
 ghost use Rattle.market.specs.Precedence.{key_code, purchase_order};

@@ -1,10 +1,10 @@
 // The fifteen causes of a refusal, in the order in which they are checked (docs/REFUSALS.md).
 ghost use Rattle.std.specs.Prelude.{◌≡◌, Some};
-ghost use Rattle.market.specs.Refusals.{refusal_number, unplaced};
+ghost use Rattle.market.specs.Refusals.{faulty, refusal_number, unplaced};
 ghost use Rattle.market.specs.Answers.{refusal_text};
 
 use std::fmt;
-use table::fault::Refusal as Unplaced;
+use table::fault::{Fault, Refusal as Unplaced};
 
 #[derive(Clone, Copy, PartialEq, Eq)]
 pub enum Refusal {
@@ -46,6 +46,18 @@ impl From<Refusal> for u8 {
             Refusal::PositionLimit => 13,
             Refusal::NoForm => 14,
             Refusal::WrongState => 15,
+        }
+    }
+}
+
+// What is wrong with a table.
+impl From<Fault> for Refusal {
+    ghost from_gives = { λ fault refusal. refusal ≡ faulty fault };
+
+    fn from(fault: Fault) -> Refusal {
+        match fault {
+            Fault::Size => Refusal::TableSize,
+            Fault::Disturbed => Refusal::TableDisturbed,
         }
     }
 }

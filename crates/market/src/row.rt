@@ -18,6 +18,7 @@ pub trait BlockRow: Copy {
     fn block(&self) -> Block
         ensures { result ≡ held self.now };
 
+    // No `From`, whose promise could not be said by `held`.
     fn of(block: Block) -> Self
         ensures { held result ≡ block };
 
@@ -31,7 +32,8 @@ impl BlockRow for Sale {
     ghost traded = { side-of.Sale };
 
     fn block(&self) -> Block {
-        self.block
+        let Sale { block } = *self;
+        block
     }
 
     fn of(block: Block) -> Sale {
@@ -49,7 +51,8 @@ impl BlockRow for Purchase {
     ghost traded = { side-of.Purchase };
 
     fn block(&self) -> Block {
-        self.block
+        let Purchase { block } = *self;
+        block
     }
 
     fn of(block: Block) -> Purchase {

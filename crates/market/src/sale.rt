@@ -1,4 +1,5 @@
-// A sale block as a row of a table: the cheapest comes first.
+// A sale block as a row of a table: the cheapest comes first. Sales and purchases are two types, so that neither stands in a table of
+// the other; one type over a const parameter would call them `Row<true>` and `Row<false>`, and specs `Row 1` and `Row 0`.
 ghost use Rattle.market.specs.Limits.{BlockWithinLimits};
 ghost use Rattle.std.specs.Prelude.{◌<◌};
 ghost use Rattle.market.specs.Precedence.{key_code, sale_order};

@@ -15,6 +15,7 @@ use rules::price::PriceRule;
 use rules::sharing::SharingRule;
 use table::table::Table;
 
+// Two checks and not one over a closure: the two tables of a ladder are of two types, and a closure takes one.
 fn fits(ladder: &Ladder) -> bool
     ensures { Decides result (LadderFits ladder.now) }
 {

@@ -3,7 +3,7 @@ ghost use Rattle.std.specs.Prelude.{◌≡◌, ℤ, ◌≤ℤ◌, ◌<ℤ◌};
 ghost use Rattle.rules.specs.Prices.{RoundedMidpoint, low_end, midpoint};
 ghost use Rattle.std.proofs.Common.{rules};
 
-// A rule is asked by `&self`: it stays as it is.
+// A rule is asked by `&self`: it stays as it is. The ends come one by one, as a bracket may be crossed.
 pub trait PriceRule {
     // The price that the rule answers, from what it holds and the two ends.
     ghost meaning: { Self → ℤ → ℤ → ℤ };

@@ -5,7 +5,7 @@ ghost use Rattle.std.proofs.Common.{rules, arith};
 ghost use Rattle.std.proofs.lemmas.Bool.Decides.{nat_tests};
 ghost use Rattle.rules.specs.Proportions.{part_none, part_whole, part_rises, part_slowly};
 
-// A rule is asked by `&self`: it stays as it is.
+// A rule is asked by `&self`: it stays as it is. The three volumes come one by one, as its laws move one of them and keep the others.
 pub trait SharingRule {
     // How much of an amount is given to the front of a tie: from what the rule holds, the amount, the tied volume, and the
     // volume counted from the front.

@@ -87,6 +87,7 @@ pub fn serve<S: Service, R: Read, W: Write>(
 {
     let mut service = service;
     let mut taken = Input { out, line: None };
+    // Fixed memory, since a service has no heap.
     let mut piece = [0u8; 4096];
     // An input may have no end: the proof that the loop has one needs the count.
     for _ in 0..u64::MAX {

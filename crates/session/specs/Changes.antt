@@ -33,7 +33,7 @@ abbrev pub admitted_in : ℕ → List Account → Ledger → Counted Account
 admitted_in agent xs l = put_in account_kind (new_account agent) (lent xs l.accounts)
 
 abbrev pub Admits : ℕ → List Account → Ledger → Ledger → List Account → Type 0
-Admits agent xs l m ys = (m ≡ record { accounts = l.accounts + 1; last_session = l.last_session; income = l.income; residue = l.residue }) × (ys ≡ (admitted_in agent xs l).places)
+Admits agent xs l m ys = (m ≡ record { accounts = l.accounts + 1; last_session = l.last_session; totals = l.totals }) × (ys ≡ (admitted_in agent xs l).places)
 
 -- the tables of a zone become next, or stay as they were where the call is refused
 abbrev pub ZoneBecomes : List Sale → List Purchase → ZoneTables → Result ZoneCounts Refusal → List Sale → List Purchase → Type 0
@@ -53,10 +53,10 @@ abbrev pub empty_session : Capacities → Session
 empty_session c = record { capacities = c; one = record { sales = 0; purchases = 0 }; two = record { sales = 0; purchases = 0 } }
 
 abbrev pub new_ledger : Ledger
-new_ledger = record { accounts = 0; last_session = 0; income = pos 0; residue = pos 0 }
+new_ledger = record { accounts = 0; last_session = 0; totals = record { income = pos 0; residue = pos 0 } }
 
 abbrev pub with_number : Ledger → ℕ → Ledger
-with_number l n = record { accounts = l.accounts; last_session = n; income = l.income; residue = l.residue }
+with_number l n = record { accounts = l.accounts; last_session = n; totals = l.totals }
 
 -- the capacities are these
 abbrev pub Carries : Capacities → ℕ → ℕ → Type 0

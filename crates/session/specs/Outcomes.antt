@@ -74,6 +74,6 @@ held_for s r t = record {
 -- an accepted settlement writes and posts its entries, to the counted accounts only; a refused one changes nothing
 abbrev pub Posts : settled.Outcome → Ledger → List Account → List Entry → Result Settled Refusal → List Account → List Entry → Type 0
 Posts o l xs es (Ok s) ys fs =
-    Settles o l.income l.residue (take l.accounts xs) (accounts_after o (take l.accounts xs)) es fs s
+    Settles o l.totals.income l.totals.residue (take l.accounts xs) (accounts_after o (take l.accounts xs)) es fs s
     × (ys ≡ accounts_after o (take l.accounts xs) ++ drop l.accounts xs)
 Posts o l xs es (Err why) ys fs = (ys ≡ xs) × (fs ≡ es)

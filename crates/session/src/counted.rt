@@ -21,7 +21,6 @@ use rules::sharing::SharingRule;
 use settlement::entry::Entry;
 use settlement::session::{ClearedSession, ClearedZone};
 use settlement::settle::Settled;
-use settlement::totals::Totals;
 use table::view::View;
 
 // Writes what is matched of each counted block, and reports prices, flow and surplus.
@@ -63,7 +62,7 @@ fn settle_counted<P, S>(
 ) -> Result<Settled, Refusal>
     requires fit { BlocksFit (blocks_held session blocks.now) }
     requires accounts { Fits account_kind (lent accounts.old ledger.accounts) }
-    ensures why { FirstCause (settle_causes (held_for session report (four_held blocks.now)) (rows_of (lent accounts.old ledger.accounts)) entries.old ledger.income ledger.residue) result }
+    ensures why { FirstCause (settle_causes (held_for session report (four_held blocks.now)) (rows_of (lent accounts.old ledger.accounts)) entries.old ledger.totals.income ledger.totals.residue) result }
     ensures after { Posts (held_for session report (four_held blocks.now)) ledger accounts.old entries.old result accounts.new entries.new }
 {
     let one = ClearedZone {
@@ -85,10 +84,7 @@ fn settle_counted<P, S>(
         cleared,
         &mut accounts[..ledger.accounts],
         entries,
-        Totals {
-            income: ledger.income,
-            residue: ledger.residue,
-        },
+        ledger.totals,
     )
 }
 
@@ -116,7 +112,7 @@ pub fn settle_session<P, S>(
     accounts: &mut [Account],
     entries: &mut [Entry],
 ) -> Result<Settled, Refusal>
-    ensures why { FirstCause (exchange-settle-causes (held_for session report (four_held blocks.now)) (blocks_held session blocks.now) (lent accounts.old ledger.accounts) entries.old ledger.income ledger.residue) result }
+    ensures why { FirstCause (exchange-settle-causes (held_for session report (four_held blocks.now)) (blocks_held session blocks.now) (lent accounts.old ledger.accounts) entries.old ledger.totals.income ledger.totals.residue) result }
     ensures after { Posts (held_for session report (four_held blocks.now)) ledger accounts.old entries.old result accounts.new entries.new }
 {
     let counted = View {

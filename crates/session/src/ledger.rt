@@ -18,9 +18,7 @@ pub struct Ledger {
     // How many accounts are counted.
     pub accounts: usize,
     pub last_session: u32,
-    // In cents.
-    pub income: i64,
-    pub residue: i64,
+    pub totals: Totals,
 }
 
 impl Ledger {
@@ -30,12 +28,7 @@ impl Ledger {
         ensures after { Leaves accounts.old (Admits agent accounts.old self) result accounts.new }
     {
         let mut table = Table::new(accounts, self.accounts);
-        if !table.fits() {
-            return Err(Refusal::TableSize);
-        }
-        if !table.is_sound() {
-            return Err(Refusal::TableDisturbed);
-        }
+        table.check()?;
         if !agent_within(agent) {
             return Err(Refusal::OutsideLimits);
         }
@@ -77,12 +70,8 @@ impl Ledger {
 
     // The ledger with another income and another residue.
     pub fn with_totals(self, totals: Totals) -> Ledger
-        ensures { result ≡ record { accounts = self.accounts; last_session = self.last_session; income = totals.income; residue = totals.residue } }
+        ensures { result ≡ record { accounts = self.accounts; last_session = self.last_session; totals = totals } }
     {
-        Ledger {
-            income: totals.income,
-            residue: totals.residue,
-            ..self
-        }
+        Ledger { totals, ..self }
     }
 }

@@ -1,5 +1,5 @@
 // The session that is open: what the interconnector can carry, and how many blocks are counted in each table.
-ghost use Rattle.std.specs.Prelude.{◌≡◌, ◌++◌, Err, Decides};
+ghost use Rattle.std.specs.Prelude.{◌≡◌, Err, Decides};
 ghost use Rattle.market.specs.Places.{SamePlaces, SameZonePlaces};
 ghost use Rattle.market.specs.Refusals.{FirstCause};
 ghost use Rattle.session.specs.Causes.{BlocksFit, BlocksInOrder, ZoneFits, ZoneInOrder, clear_causes, enter_causes, five_causes, nowhere_causes, owned_causes, row_enter_causes, row_withdraw_causes, side_enter_causes, side_withdraw_causes, standing_causes, withdraw_causes};
@@ -63,7 +63,8 @@ fn put_owned<R: Record>(
     put(table, row)
 }
 
-// Puts a bid into a table as a row, once the tables and the bid are checked; answers the new count.
+// Puts a bid into a table as a row, once the tables and the bid are checked; answers the new count. Rows and count come apart, since of
+// a `Table` made of a field behind a `&mut` the caller's proof did not learn what the field holds afterwards.
 fn enter_row<R: Record>(
     rows: &mut [R],
     count: usize,
@@ -90,12 +91,7 @@ fn withdraw_row<R: Record<Key = BlockKey>>(
     ensures after { Leaves rows.old (Becomes (taken_out (kind R.order R.limits R.MAX) key (lent rows.old count))) result rows.new }
 {
     let mut table = Table { rows, count };
-    if !table.fits() {
-        return Err(Refusal::TableSize);
-    }
-    if !table.is_sound() {
-        return Err(Refusal::TableDisturbed);
-    }
+    table.check()?;
     if !key.within_limits() {
         return Err(Refusal::OutsideLimits);
     }
@@ -261,7 +257,7 @@ impl Session {
     }
 }
 
-// Two checks and not one over a closure: the two tables of a zone are of two types, and a closure takes one.
+// Two checks and not one over a closure, of a zone and so of a session: the two tables of a zone are of two types, and a closure takes one.
 impl ZoneCounts {
     // Whether the tables of the zone are within their sizes.
     fn fits(self, sales: &[Sale], purchases: &[Purchase]) -> bool
@@ -291,8 +287,11 @@ impl Session {
     fn in_order(self, blocks: &BlockPlaces<'_>) -> bool
         ensures { Decides result (BlocksInOrder (blocks_held self blocks.now)) }
     {
-        self.one.in_order(&*blocks.sales_one, &*blocks.purchases_one)
-            && self.two.in_order(&*blocks.sales_two, &*blocks.purchases_two)
+        self.one
+            .in_order(&*blocks.sales_one, &*blocks.purchases_one)
+            && self
+                .two
+                .in_order(&*blocks.sales_two, &*blocks.purchases_two)
     }
 
     // Checks the tables of a clearing.

@@ -27,6 +27,12 @@ module _ {X : Type 0} (t : Trade X) (p : ℤ) where
   entries_append xs ys =
       ap (λ zs. map entry (map (due t p) zs)) (filter-append (is_matched t) xs ys) ∙ ap (map entry) (map-append (due t p) (filter (is_matched t) xs) (filter (is_matched t) ys)) ∙ map-append entry (dues t p xs) (dues t p ys)
 
+  -- what the entries add up to, row by row
+  pub total_rows : (f : Entry → ℤ) (xs : List X) → total f (side_entries t p xs) ≡ total (λ x. total f (side_entries t p (x ∷ []))) xs
+  total_rows f [] = refl
+  total_rows f (x ∷ xs) =
+      ap (total f) (entries_append (x ∷ []) xs) ∙ total_append f (side_entries t p (x ∷ [])) (side_entries t p xs) ∙ ap (λ z. total f (side_entries t p (x ∷ [])) +ℤ z) (total_rows f xs)
+
   pub entries_none : (x : X) → is_matched t x ≡ false → side_entries t p (x ∷ []) ≡ []
   entries_none x e = ap (λ b. map entry (map (due t p) (cond b (x ∷ []) []))) e
 
@@ -38,9 +44,6 @@ module _ {X : Type 0} (t : Trade X) (p : ℤ) where
     pub entries_more : side_entries t p (take (i + 1) xs) ≡ side_entries t p (take i xs) ++ side_entries t p (r ∷ [])
     entries_more =
         ap (side_entries t p) (take_more xs i r within ∙ ap (λ y. take i xs ++ y ∷ []) (sym here)) ∙ entries_append (take i xs) (r ∷ [])
-
-    pub total_more : (f : Entry → ℤ) → total f (side_entries t p (take (i + 1) xs)) ≡ total f (side_entries t p (take i xs)) +ℤ total f (side_entries t p (r ∷ []))
-    total_more f = ap (total f) entries_more ∙ total_append f (side_entries t p (take i xs)) (side_entries t p (r ∷ []))
 
     pub places_left : is_matched t r ≡ true → length (side_entries t p (take i xs)) < length (side_entries t p xs)
     places_left m =

@@ -11,4 +11,4 @@ entry_text e =
     ++ (codes " " ++ (signed_decimal e.cents ++ codes ")")))))))
 
 abbrev pub settled_text : Settled → List ℕ
-settled_text s = codes "(settled (income " ++ (signed_decimal s.income ++ (codes ") (residue " ++ (signed_decimal s.residue ++ codes "))")))
+settled_text s = codes "(settled (income " ++ (signed_decimal s.session.income ++ (codes ") (residue " ++ (signed_decimal s.session.residue ++ codes "))")))

@@ -27,10 +27,10 @@ settle_causes o accounts entries income residue =
 -- what is reported of an accepted settlement
 pub record Reported (o : Outcome) (income residue : ℤ) (s : Settled) : Type 0 where
   pub entries : s.entries ≡ length (entries_of o)
-  pub incomes : s.income ≡ income_of o
-  pub residues : s.residue ≡ residue_of o
-  pub total_incomes : s.total_income ≡ income +ℤ income_of o
-  pub total_residues : s.total_residue ≡ residue +ℤ residue_of o
+  pub incomes : s.session.income ≡ income_of o
+  pub residues : s.session.residue ≡ residue_of o
+  pub total_incomes : s.exchange.income ≡ income +ℤ income_of o
+  pub total_residues : s.exchange.residue ≡ residue +ℤ residue_of o
 
 -- what an accepted settlement leaves: the accounts and the entry list before it and after it
 pub record Settles (o : Outcome) (income residue : ℤ) (accounts accounts' : List Account) (entries entries' : List Entry) (s : Settled) : Type 0 where

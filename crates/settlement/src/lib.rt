@@ -97,7 +97,7 @@ mod tests {
             return Err(Fail::new("refused"));
         };
         assert_eq!(rt; settled.entries, 4);
-        assert_eq!(rt; [settled.income, settled.residue], [0, -1]);
+        assert_eq!(rt; [settled.session.income, settled.session.residue], [0, -1]);
         assert_eq!(rt;
             [
                 entries[0].cents,

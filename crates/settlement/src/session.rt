@@ -30,6 +30,8 @@ pub struct ClearedSession<'a> {
     pub flow: i32,
 }
 
+// Each method of a zone joins what its two sides give. Their rows differ in type, and no closure takes both types, so a helper
+// would need a trait with an impl for each method.
 impl ClearedZone<'_> {
     // How many blocks have anything matched.
     fn matched_blocks(self) -> u128
@@ -81,6 +83,8 @@ fn exceeds(more: u128, less: u128, flow: i32) -> bool
     less.checked_add_signed(flow as i128) == Some(more)
 }
 
+// Each method of a session joins its two zones by `+` or `&&`. A helper that took the zone's method as a closure would need a
+// contract over all such closures, to save a few words.
 impl ClearedSession<'_> {
     // Whether the matched volumes balance with the flow, zone by zone.
     pub(crate) fn is_balanced(self) -> bool

@@ -17,14 +17,12 @@ use market::account::Account;
 use market::refusal::Refusal;
 use std::fmt;
 
-// What a settlement reports: how many entries it wrote, the income and the residue of the session, and those of the exchange after it.
+// What a settlement reports: how many entries it wrote, the totals of the session, and those of the exchange after it.
 #[derive(Clone, Copy)]
 pub struct Settled {
     pub entries: usize,
-    pub income: i64,
-    pub residue: i64,
-    pub total_income: i64,
-    pub total_residue: i64,
+    pub session: Totals,
+    pub exchange: Totals,
 }
 
 // The income and the residue of the session; the entries are printed before them.
@@ -32,11 +30,7 @@ impl fmt::Display for Settled {
     ghost output = { λ s. Some (settled_text s) };
 
     fn fmt<W: fmt::Write>(&self, f: &mut fmt::Formatter<W>) -> fmt::Result {
-        let Settled {
-            income,
-            residue,
-            ..
-        } = *self;
+        let Totals { income, residue } = self.session;
         write!(f, "(settled (income {income}) (residue {residue}))")
     }
 }
@@ -51,10 +45,11 @@ fn report(session: ClearedSession<'_>, entries: usize, totals: Totals) -> Settle
     let residue = session.residue() as i64;
     Settled {
         entries,
-        income,
-        residue,
-        total_income: totals.income + income,
-        total_residue: totals.residue + residue,
+        session: Totals { income, residue },
+        exchange: Totals {
+            income: totals.income + income,
+            residue: totals.residue + residue,
+        },
     }
 }
 

@@ -1,5 +1,6 @@
 // The blocks of one side of one zone: what is matched of them, and what they are due. One loop for sales and purchases alike.
 ghost use Rattle.std.specs.Prelude.{◌≡◌, ◌+◌, ◌^◌, ◌<◌, ◌≤◌, true, [], ◌∷◌, length, ℤ, Decides, filter, unsigned_abs};
+ghost use Rattle.std.specs.Fn.{FnReturnsAt};
 ghost use Rattle.std.specs.List.{AllByRecursion};
 ghost use Rattle.settlement.specs.Balance.{matched};
 ghost use Rattle.settlement.specs.Entries.{due, entry, is_matched, side_entries, trade_of};
@@ -63,16 +64,26 @@ fn row_posted<B: BlockRow>(row: &B, price: i32, agent: u32) -> i64
     row_cents(row, price)
 }
 
+// The sum of a small number of each row.
+fn summed<B, F: Fn(&B) -> i64>(blocks: &[B], addend: F) -> i128
+    requires callable { F.IsAlwaysCallable addend }
+    requires small { (row : B) (r : ℤ) → FnReturnsAt F.Fn addend row r → unsigned_abs r ≤ 2 ^ 60 }
+    ensures value { (number : B → ℤ) → ((row : B) (r : ℤ) → FnReturnsAt F.Fn addend row r → r ≡ number row) → result ≡ total number blocks.now }
+    ensures small { unsigned_abs result ≤ 2 ^ 124 }
+{
+    let mut sum: i128 = 0;
+    for row in blocks {
+        sum += addend(row) as i128;
+    }
+    sum
+}
+
 // The cents of all entries.
 pub(crate) fn total_cents<B: BlockRow>(blocks: &[B], price: i32) -> i128
     ensures value { result ≡ total (λ e. e.cents) (side_entries (trade_of B.held B.traded) price blocks.now) }
     ensures small { unsigned_abs result ≤ 2 ^ 124 }
 {
-    let mut sum: i128 = 0;
-    for row in blocks {
-        sum += row_cents(row, price) as i128;
-    }
-    sum
+    summed(blocks, |row| row_cents(row, price))
 }
 
 // The cents of all entries that go to the agent.
@@ -80,11 +91,7 @@ pub(crate) fn posted_cents<B: BlockRow>(blocks: &[B], price: i32, agent: u32) ->
     ensures value { result ≡ posted agent (side_entries (trade_of B.held B.traded) price blocks.now) }
     ensures small { unsigned_abs result ≤ 2 ^ 124 }
 {
-    let mut sum: i128 = 0;
-    for row in blocks {
-        sum += row_posted(row, price, agent) as i128;
-    }
-    sum
+    summed(blocks, |row| row_posted(row, price, agent))
 }
 
 // The entry of a matched row.

@@ -28,6 +28,7 @@ pub trait Record: Copy {
         ensures value { result ≡ code (order.named self.now) }
         ensures coded { coded (order.named self.now) };
 
+    // No `Ord`, which has to read every field that `==` reads: a precedence reads some of them.
     fn before(&self, other: &Self) -> bool
         ensures { result ≡ order.precedes self.now other.now };
 

@@ -60,7 +60,7 @@ fn keys_apart_slowly<R: Record>(rows: &[R]) -> bool
     true
 }
 
-// Writes the codes of the rows' keys.
+// Writes the codes of the rows' keys, each by its place: after a walk by `iter_mut` in a zip nothing is known of the codes.
 fn gather<R: Record>(rows: &[R], codes: &mut [u64])
     requires { length codes.old ≡ length rows.now }
     ensures codes { codes.new ≡ map (λ x. R.code (R.order.named x)) rows.now }
@@ -160,7 +160,7 @@ fn codes_apart<R: Record>(rows: &[R]) -> bool
     all_differ(codes)
 }
 
-// Up to so many rows a look at every earlier row is quicker than clearing the room for codes.
+// Up to so many rows a look at every later row is quicker than clearing the room for codes.
 const FEW: usize = 8;
 
 // Whether no key stands twice.

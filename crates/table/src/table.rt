@@ -1,4 +1,5 @@
-// A table: the first `count` rows of a slice that is lent to it.
+// A table: the first `count` rows of a slice that is lent to it. The count stands beside the slice, as the memory is the lender's and
+// the count is the exchange's.
 ghost use Rattle.std.specs.Prelude.{◌≡◌, ℕ, ◌≤◌, length, take, Decides};
 ghost use Rattle.table.specs.Rows.{Sound, found};
 ghost use Rattle.table.specs.Edits.{Fitting, Judged, Inserted, Removed};

@@ -1,11 +1,11 @@
 // The worked results that need no call file, as data: the cases that the definitions are proved to give, by the same names.
 use auction::engine::Clearing;
-use market::zone::{Side, Zone};
+use market::zone::Side;
 
-// A block of volume `volume` at `price`, of which `matched` is matched.
+// A block of volume `volume` at `price`, of which `matched` is matched. It is entered by the number of its zone.
 #[derive(Clone, Copy)]
 pub struct Lot {
-    pub zone: Zone,
+    pub zone: u32,
     pub side: Side,
     pub unit: u32,
     pub price: i32,
@@ -27,7 +27,7 @@ const EMPTY_MARKET: &[Lot] = &[];
 
 const MEETING_PRICE: &[Lot] = &[
     Lot {
-        zone: Zone::One,
+        zone: 1,
         side: Side::Sale,
         unit: 1,
         price: 3000,
@@ -35,7 +35,7 @@ const MEETING_PRICE: &[Lot] = &[
         matched: 10,
     },
     Lot {
-        zone: Zone::One,
+        zone: 1,
         side: Side::Purchase,
         unit: 1,
         price: 3000,
@@ -46,7 +46,7 @@ const MEETING_PRICE: &[Lot] = &[
 
 const ONE_CENT_APART: &[Lot] = &[
     Lot {
-        zone: Zone::One,
+        zone: 1,
         side: Side::Sale,
         unit: 1,
         price: 3001,
@@ -54,7 +54,7 @@ const ONE_CENT_APART: &[Lot] = &[
         matched: 0,
     },
     Lot {
-        zone: Zone::One,
+        zone: 1,
         side: Side::Purchase,
         unit: 1,
         price: 3000,
@@ -65,7 +65,7 @@ const ONE_CENT_APART: &[Lot] = &[
 
 const UNCONGESTED: &[Lot] = &[
     Lot {
-        zone: Zone::One,
+        zone: 1,
         side: Side::Sale,
         unit: 1,
         price: 2000,
@@ -73,7 +73,7 @@ const UNCONGESTED: &[Lot] = &[
         matched: 100,
     },
     Lot {
-        zone: Zone::One,
+        zone: 1,
         side: Side::Sale,
         unit: 2,
         price: 4000,
@@ -81,7 +81,7 @@ const UNCONGESTED: &[Lot] = &[
         matched: 60,
     },
     Lot {
-        zone: Zone::One,
+        zone: 1,
         side: Side::Purchase,
         unit: 1,
         price: 6000,
@@ -89,7 +89,7 @@ const UNCONGESTED: &[Lot] = &[
         matched: 60,
     },
     Lot {
-        zone: Zone::Two,
+        zone: 2,
         side: Side::Sale,
         unit: 1,
         price: 5000,
@@ -97,7 +97,7 @@ const UNCONGESTED: &[Lot] = &[
         matched: 0,
     },
     Lot {
-        zone: Zone::Two,
+        zone: 2,
         side: Side::Purchase,
         unit: 1,
         price: 7000,
@@ -108,7 +108,7 @@ const UNCONGESTED: &[Lot] = &[
 
 const ONE_TENTH_SHORT: &[Lot] = &[
     Lot {
-        zone: Zone::One,
+        zone: 1,
         side: Side::Sale,
         unit: 1,
         price: 2000,
@@ -116,7 +116,7 @@ const ONE_TENTH_SHORT: &[Lot] = &[
         matched: 100,
     },
     Lot {
-        zone: Zone::One,
+        zone: 1,
         side: Side::Sale,
         unit: 2,
         price: 4000,
@@ -124,7 +124,7 @@ const ONE_TENTH_SHORT: &[Lot] = &[
         matched: 59,
     },
     Lot {
-        zone: Zone::One,
+        zone: 1,
         side: Side::Purchase,
         unit: 1,
         price: 6000,
@@ -132,7 +132,7 @@ const ONE_TENTH_SHORT: &[Lot] = &[
         matched: 60,
     },
     Lot {
-        zone: Zone::Two,
+        zone: 2,
         side: Side::Sale,
         unit: 1,
         price: 5000,
@@ -140,7 +140,7 @@ const ONE_TENTH_SHORT: &[Lot] = &[
         matched: 1,
     },
     Lot {
-        zone: Zone::Two,
+        zone: 2,
         side: Side::Purchase,
         unit: 1,
         price: 7000,
@@ -151,7 +151,7 @@ const ONE_TENTH_SHORT: &[Lot] = &[
 
 const CONGESTED: &[Lot] = &[
     Lot {
-        zone: Zone::One,
+        zone: 1,
         side: Side::Sale,
         unit: 1,
         price: 2000,
@@ -159,7 +159,7 @@ const CONGESTED: &[Lot] = &[
         matched: 90,
     },
     Lot {
-        zone: Zone::One,
+        zone: 1,
         side: Side::Sale,
         unit: 2,
         price: 4000,
@@ -167,7 +167,7 @@ const CONGESTED: &[Lot] = &[
         matched: 0,
     },
     Lot {
-        zone: Zone::One,
+        zone: 1,
         side: Side::Purchase,
         unit: 1,
         price: 6000,
@@ -175,7 +175,7 @@ const CONGESTED: &[Lot] = &[
         matched: 60,
     },
     Lot {
-        zone: Zone::Two,
+        zone: 2,
         side: Side::Sale,
         unit: 1,
         price: 5000,
@@ -183,7 +183,7 @@ const CONGESTED: &[Lot] = &[
         matched: 50,
     },
     Lot {
-        zone: Zone::Two,
+        zone: 2,
         side: Side::Purchase,
         unit: 1,
         price: 7000,
@@ -194,7 +194,7 @@ const CONGESTED: &[Lot] = &[
 
 const SHARED_TIE: &[Lot] = &[
     Lot {
-        zone: Zone::One,
+        zone: 1,
         side: Side::Sale,
         unit: 1,
         price: 10,
@@ -202,7 +202,7 @@ const SHARED_TIE: &[Lot] = &[
         matched: 15,
     },
     Lot {
-        zone: Zone::One,
+        zone: 1,
         side: Side::Sale,
         unit: 2,
         price: 10,
@@ -210,7 +210,7 @@ const SHARED_TIE: &[Lot] = &[
         matched: 15,
     },
     Lot {
-        zone: Zone::One,
+        zone: 1,
         side: Side::Sale,
         unit: 3,
         price: 10,
@@ -218,7 +218,7 @@ const SHARED_TIE: &[Lot] = &[
         matched: 20,
     },
     Lot {
-        zone: Zone::One,
+        zone: 1,
         side: Side::Purchase,
         unit: 1,
         price: 20,
@@ -229,7 +229,7 @@ const SHARED_TIE: &[Lot] = &[
 
 const TIE_IN_PRECEDENCE: &[Lot] = &[
     Lot {
-        zone: Zone::One,
+        zone: 1,
         side: Side::Sale,
         unit: 1,
         price: 10,
@@ -237,7 +237,7 @@ const TIE_IN_PRECEDENCE: &[Lot] = &[
         matched: 30,
     },
     Lot {
-        zone: Zone::One,
+        zone: 1,
         side: Side::Sale,
         unit: 2,
         price: 10,
@@ -245,7 +245,7 @@ const TIE_IN_PRECEDENCE: &[Lot] = &[
         matched: 20,
     },
     Lot {
-        zone: Zone::One,
+        zone: 1,
         side: Side::Sale,
         unit: 3,
         price: 10,
@@ -253,7 +253,7 @@ const TIE_IN_PRECEDENCE: &[Lot] = &[
         matched: 0,
     },
     Lot {
-        zone: Zone::One,
+        zone: 1,
         side: Side::Purchase,
         unit: 1,
         price: 20,
@@ -264,7 +264,7 @@ const TIE_IN_PRECEDENCE: &[Lot] = &[
 
 const TIE_WITH_REMAINDER: &[Lot] = &[
     Lot {
-        zone: Zone::One,
+        zone: 1,
         side: Side::Sale,
         unit: 1,
         price: 10,
@@ -272,7 +272,7 @@ const TIE_WITH_REMAINDER: &[Lot] = &[
         matched: 0,
     },
     Lot {
-        zone: Zone::One,
+        zone: 1,
         side: Side::Sale,
         unit: 2,
         price: 10,
@@ -280,7 +280,7 @@ const TIE_WITH_REMAINDER: &[Lot] = &[
         matched: 1,
     },
     Lot {
-        zone: Zone::One,
+        zone: 1,
         side: Side::Sale,
         unit: 3,
         price: 10,
@@ -288,7 +288,7 @@ const TIE_WITH_REMAINDER: &[Lot] = &[
         matched: 1,
     },
     Lot {
-        zone: Zone::One,
+        zone: 1,
         side: Side::Purchase,
         unit: 1,
         price: 20,
@@ -299,7 +299,7 @@ const TIE_WITH_REMAINDER: &[Lot] = &[
 
 const TIE_BEHIND_TENTHS: &[Lot] = &[
     Lot {
-        zone: Zone::One,
+        zone: 1,
         side: Side::Sale,
         unit: 1,
         price: 10,
@@ -307,7 +307,7 @@ const TIE_BEHIND_TENTHS: &[Lot] = &[
         matched: 4,
     },
     Lot {
-        zone: Zone::One,
+        zone: 1,
         side: Side::Sale,
         unit: 2,
         price: 90,
@@ -315,7 +315,7 @@ const TIE_BEHIND_TENTHS: &[Lot] = &[
         matched: 0,
     },
     Lot {
-        zone: Zone::One,
+        zone: 1,
         side: Side::Purchase,
         unit: 1,
         price: 50,
@@ -323,7 +323,7 @@ const TIE_BEHIND_TENTHS: &[Lot] = &[
         matched: 1,
     },
     Lot {
-        zone: Zone::One,
+        zone: 1,
         side: Side::Purchase,
         unit: 2,
         price: 50,
@@ -331,7 +331,7 @@ const TIE_BEHIND_TENTHS: &[Lot] = &[
         matched: 1,
     },
     Lot {
-        zone: Zone::Two,
+        zone: 2,
         side: Side::Purchase,
         unit: 1,
         price: 100,
@@ -342,7 +342,7 @@ const TIE_BEHIND_TENTHS: &[Lot] = &[
 
 const PURCHASE_AT_LIMIT: &[Lot] = &[
     Lot {
-        zone: Zone::One,
+        zone: 1,
         side: Side::Sale,
         unit: 1,
         price: 10,
@@ -350,7 +350,7 @@ const PURCHASE_AT_LIMIT: &[Lot] = &[
         matched: 2,
     },
     Lot {
-        zone: Zone::One,
+        zone: 1,
         side: Side::Sale,
         unit: 2,
         price: 300000,
@@ -358,7 +358,7 @@ const PURCHASE_AT_LIMIT: &[Lot] = &[
         matched: 3,
     },
     Lot {
-        zone: Zone::One,
+        zone: 1,
         side: Side::Purchase,
         unit: 1,
         price: 300000,
@@ -366,7 +366,7 @@ const PURCHASE_AT_LIMIT: &[Lot] = &[
         matched: 3,
     },
     Lot {
-        zone: Zone::Two,
+        zone: 2,
         side: Side::Purchase,
         unit: 1,
         price: 300000,
@@ -374,7 +374,7 @@ const PURCHASE_AT_LIMIT: &[Lot] = &[
         matched: 0,
     },
     Lot {
-        zone: Zone::Two,
+        zone: 2,
         side: Side::Purchase,
         unit: 2,
         price: 300000,
@@ -385,7 +385,7 @@ const PURCHASE_AT_LIMIT: &[Lot] = &[
 
 const SALE_AT_LIMIT: &[Lot] = &[
     Lot {
-        zone: Zone::One,
+        zone: 1,
         side: Side::Sale,
         unit: 1,
         price: -50000,
@@ -393,7 +393,7 @@ const SALE_AT_LIMIT: &[Lot] = &[
         matched: 5,
     },
     Lot {
-        zone: Zone::One,
+        zone: 1,
         side: Side::Sale,
         unit: 2,
         price: 80,
@@ -401,7 +401,7 @@ const SALE_AT_LIMIT: &[Lot] = &[
         matched: 2,
     },
     Lot {
-        zone: Zone::One,
+        zone: 1,
         side: Side::Purchase,
         unit: 1,
         price: 100,
@@ -409,7 +409,7 @@ const SALE_AT_LIMIT: &[Lot] = &[
         matched: 9,
     },
     Lot {
-        zone: Zone::Two,
+        zone: 2,
         side: Side::Sale,
         unit: 1,
         price: -50000,
@@ -417,7 +417,7 @@ const SALE_AT_LIMIT: &[Lot] = &[
         matched: 3,
     },
     Lot {
-        zone: Zone::Two,
+        zone: 2,
         side: Side::Purchase,
         unit: 1,
         price: 50,
@@ -428,7 +428,7 @@ const SALE_AT_LIMIT: &[Lot] = &[
 
 const TIE_ACROSS_ZONES: &[Lot] = &[
     Lot {
-        zone: Zone::One,
+        zone: 1,
         side: Side::Sale,
         unit: 1,
         price: 10,
@@ -436,7 +436,7 @@ const TIE_ACROSS_ZONES: &[Lot] = &[
         matched: 2,
     },
     Lot {
-        zone: Zone::One,
+        zone: 1,
         side: Side::Purchase,
         unit: 1,
         price: 20,
@@ -444,7 +444,7 @@ const TIE_ACROSS_ZONES: &[Lot] = &[
         matched: 1,
     },
     Lot {
-        zone: Zone::Two,
+        zone: 2,
         side: Side::Sale,
         unit: 1,
         price: 10,
@@ -452,7 +452,7 @@ const TIE_ACROSS_ZONES: &[Lot] = &[
         matched: 2,
     },
     Lot {
-        zone: Zone::Two,
+        zone: 2,
         side: Side::Purchase,
         unit: 1,
         price: 20,
@@ -463,7 +463,7 @@ const TIE_ACROSS_ZONES: &[Lot] = &[
 
 const TIE_ACROSS_ZONES_IN_PRECEDENCE: &[Lot] = &[
     Lot {
-        zone: Zone::One,
+        zone: 1,
         side: Side::Sale,
         unit: 1,
         price: 10,
@@ -471,7 +471,7 @@ const TIE_ACROSS_ZONES_IN_PRECEDENCE: &[Lot] = &[
         matched: 3,
     },
     Lot {
-        zone: Zone::One,
+        zone: 1,
         side: Side::Purchase,
         unit: 1,
         price: 20,
@@ -479,7 +479,7 @@ const TIE_ACROSS_ZONES_IN_PRECEDENCE: &[Lot] = &[
         matched: 1,
     },
     Lot {
-        zone: Zone::Two,
+        zone: 2,
         side: Side::Sale,
         unit: 1,
         price: 10,
@@ -487,7 +487,7 @@ const TIE_ACROSS_ZONES_IN_PRECEDENCE: &[Lot] = &[
         matched: 1,
     },
     Lot {
-        zone: Zone::Two,
+        zone: 2,
         side: Side::Purchase,
         unit: 1,
         price: 20,
@@ -498,7 +498,7 @@ const TIE_ACROSS_ZONES_IN_PRECEDENCE: &[Lot] = &[
 
 const NO_LINE: &[Lot] = &[
     Lot {
-        zone: Zone::One,
+        zone: 1,
         side: Side::Sale,
         unit: 1,
         price: 10,
@@ -506,7 +506,7 @@ const NO_LINE: &[Lot] = &[
         matched: 1,
     },
     Lot {
-        zone: Zone::One,
+        zone: 1,
         side: Side::Purchase,
         unit: 1,
         price: 20,
@@ -514,7 +514,7 @@ const NO_LINE: &[Lot] = &[
         matched: 1,
     },
     Lot {
-        zone: Zone::Two,
+        zone: 2,
         side: Side::Sale,
         unit: 1,
         price: 5,
@@ -522,7 +522,7 @@ const NO_LINE: &[Lot] = &[
         matched: 3,
     },
     Lot {
-        zone: Zone::Two,
+        zone: 2,
         side: Side::Purchase,
         unit: 1,
         price: 40,
@@ -533,7 +533,7 @@ const NO_LINE: &[Lot] = &[
 
 const ONE_SIDE_EMPTY: &[Lot] = &[
     Lot {
-        zone: Zone::One,
+        zone: 1,
         side: Side::Sale,
         unit: 1,
         price: 10,
@@ -541,7 +541,7 @@ const ONE_SIDE_EMPTY: &[Lot] = &[
         matched: 1,
     },
     Lot {
-        zone: Zone::Two,
+        zone: 2,
         side: Side::Purchase,
         unit: 1,
         price: 40,
@@ -552,7 +552,7 @@ const ONE_SIDE_EMPTY: &[Lot] = &[
 
 const FLOW_BACK: &[Lot] = &[
     Lot {
-        zone: Zone::One,
+        zone: 1,
         side: Side::Sale,
         unit: 1,
         price: 90,
@@ -560,7 +560,7 @@ const FLOW_BACK: &[Lot] = &[
         matched: 4,
     },
     Lot {
-        zone: Zone::One,
+        zone: 1,
         side: Side::Purchase,
         unit: 1,
         price: 100,
@@ -568,7 +568,7 @@ const FLOW_BACK: &[Lot] = &[
         matched: 6,
     },
     Lot {
-        zone: Zone::Two,
+        zone: 2,
         side: Side::Sale,
         unit: 1,
         price: 10,
@@ -576,7 +576,7 @@ const FLOW_BACK: &[Lot] = &[
         matched: 3,
     },
     Lot {
-        zone: Zone::Two,
+        zone: 2,
         side: Side::Sale,
         unit: 2,
         price: 95,
@@ -584,7 +584,7 @@ const FLOW_BACK: &[Lot] = &[
         matched: 0,
     },
     Lot {
-        zone: Zone::Two,
+        zone: 2,
         side: Side::Purchase,
         unit: 1,
         price: 50,
@@ -595,7 +595,7 @@ const FLOW_BACK: &[Lot] = &[
 
 const APART_IN_BOTH_ZONES: &[Lot] = &[
     Lot {
-        zone: Zone::One,
+        zone: 1,
         side: Side::Sale,
         unit: 1,
         price: 30,
@@ -603,7 +603,7 @@ const APART_IN_BOTH_ZONES: &[Lot] = &[
         matched: 0,
     },
     Lot {
-        zone: Zone::One,
+        zone: 1,
         side: Side::Purchase,
         unit: 1,
         price: 20,
@@ -611,7 +611,7 @@ const APART_IN_BOTH_ZONES: &[Lot] = &[
         matched: 0,
     },
     Lot {
-        zone: Zone::Two,
+        zone: 2,
         side: Side::Sale,
         unit: 1,
         price: 25,
@@ -619,7 +619,7 @@ const APART_IN_BOTH_ZONES: &[Lot] = &[
         matched: 0,
     },
     Lot {
-        zone: Zone::Two,
+        zone: 2,
         side: Side::Purchase,
         unit: 1,
         price: 10,

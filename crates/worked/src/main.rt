@@ -61,7 +61,7 @@ fn matched_in<R: BlockRow + Record<Key = BlockKey>>(
 
 // What is matched of a lot, once it was cleared.
 fn matched(ladders: &Ladders, lot: &Lot) -> Option<u32> {
-    let ladder = match lot.zone {
+    let ladder = match Zone::try_from(lot.zone).ok()? {
         Zone::One => &ladders.one,
         Zone::Two => &ladders.two,
     };
@@ -74,7 +74,7 @@ fn matched(ladders: &Ladders, lot: &Lot) -> Option<u32> {
 
 fn enter(lots: &[Lot], ladders: &mut Ladders) -> Result<(), Refusal> {
     for lot in lots {
-        ladders.put(lot.zone, lot.side, bid_of(lot))?;
+        ladders.enter(lot.zone, lot.side, bid_of(lot))?;
     }
     Ok(())
 }
@@ -111,6 +111,7 @@ fn all_come_out<P: PriceRule, S: SharingRule>(
     let heap = rt.alloc();
     let mut all = true;
     for case in cases {
+        // Four by name: a ladder borrows two, and a value that held all four would have to lend them one by one.
         let mut sales_one = vec![in heap; Sale::default(); PLACES]?;
         let mut purchases_one = vec![in heap; Purchase::default(); PLACES]?;
         let mut sales_two = vec![in heap; Sale::default(); PLACES]?;

@@ -6,8 +6,8 @@ use Rattle.auction.proofs.crossing.find_crossing.Given as goal
 
 abbrev pub invariant-loop-sale : goal.invariant-loop-sale
 invariant-loop-sale l =
-    Walked l.fn.carried.brought lowest_price l.sales l.fn.carried.taken highest_price l.purchases l.amount l.sale.next l.sale.left l.sale.price
-    l.purchase.next l.purchase.left l.purchase.price l.last_sale l.last_purchase
+    Walked (behind l.fn.carried.brought lowest_price l.sales) (behind l.fn.carried.taken highest_price l.purchases) l.amount
+    l.sale.offers.now l.sale.left l.sale.price l.purchase.offers.now l.purchase.left l.purchase.price l.last_sale l.last_purchase
 
 abbrev pub decreases-loop-sale : goal.decreases-loop-sale
 decreases-loop-sale l = length (behind l.fn.carried.brought lowest_price l.sales) - l.amount

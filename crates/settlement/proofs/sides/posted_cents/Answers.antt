@@ -1,13 +1,15 @@
-use Rattle.std.proofs.Common.{cond, eqb, pos, arith, w32, to_z, of_z}
-use Rattle.std.proofs.lemmas.Int.{ints}
-use Rattle.settlement.specs.Entries.{trade_of}
-use Rattle.settlement.proofs.Rows.{total_more}
+use Rattle.std.proofs.Common.{◌≡◌, ◌∙◌, [], ◌∷◌, cond, eqb, pos, ℤ, ap, arith, rules, w32, to_z, of_z}
+use Rattle.std.proofs.lemmas.Int.{ints, to_z-of_z}
+use Rattle.settlement.specs.Entries.{side_entries, trade_of}
+use Rattle.settlement.specs.Postings.{posted, total}
+use Rattle.settlement.proofs.Rows.{total_rows}
 use Rattle.settlement.proofs.sides.posted_cents.Goals as goal
 
-pub loop-row-preserved : goal.loop-row-preserved
-loop-row-preserved g c =
-    let more = total_more (trade_of g.B.BlockRow.held g.B.BlockRow.traded) (to_z w32 (of_z w32 c.args.price)) c.args.blocks.now c.loop-row.row-index c.row-item.result c.loop-row-test.true c.row-item.is (λ e. cond (eqb e.agent c.args.agent) e.cents (pos 0)) in
-    record {
-      value = omega (arith, ints, more, c.loop-row.invariant.value, c.row_posted.ensures.value);
-      small = omega (arith, ints, c.loop-row.invariant.small, c.row_posted.ensures.small);
-    }
+pub returns-clause-value : goal.returns-clause-value
+returns-clause-value g c =
+    let t = trade_of g.B.BlockRow.held g.B.BlockRow.traded in
+    let at : ℤ → g.row.B.Denot → ℤ = λ p row. posted c.args.agent (side_entries t p (row ∷ [])) in
+    let row : g.row.B.Denot → ℤ = at (to_z w32 (of_z w32 c.args.price)) in
+    let sum = c.summed.ensures.value row (λ x r s. let said : r ≡ row s.shown.now = search rules in said ∙ ap row s.shows) in
+    let same = ap (λ p. total (at p) c.args.blocks.now) (to_z-of_z w32 c.args.price c.ranges.price) in
+    omega (arith, ints, sum, same, total_rows t c.args.price (λ e. cond (eqb e.agent c.args.agent) e.cents (pos 0)) c.args.blocks.now)
