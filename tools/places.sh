@@ -12,6 +12,7 @@ count() {
 commit=$1
 count 1 'a flag in a struct or as a parameter' '[a-z_]+: bool\b'
 count 1 'a refusal or an error passed on by a match' 'Err\((why|e)\) => (return )?(Err\(|\(service, Err)|return Err\(fmt::Error\)' 'state: self'
+count 1 'a refusal handed on with the state, which a ? would let go' 'Err\(why\) => Err\(Refused'
 count 1 'a refusal of one kind turned into another by a match' 'Err\(Unplaced::'
 count 1 'a zone or a side as a number or a text' '(zone: u(8|32)|side: &str)'
 count 2 'functions of one shape, by the names of the pairs' 'fn (raised|lowered|highest_price|lowest_price|still_idle|still_open|opened|cleared|settled|annul|admit|enter|withdraw|open|close|space|seat_of|rank_of|rising|neighbours_differ|codes_climb|counted|first_entries|blank[a-z_]*|show|show_bid|show_block)\b' ': *(pub )?fn (enter|withdraw|admit)<|Place'
@@ -29,5 +30,5 @@ count 5 'the clause of the capacities or of carried tenths' '≤ 30000000' 'ghos
 count 5 'the clause that a table looked at stays as it was' 'new ≡ [a-z_]+\.old \}'
 count 6 'a buffer with its length, or an array of a fixed size' 'len: usize|\[[a-z_0-9A-Z:]+(\(\))?; [A-Z0-9_]+\]' 'static|const'
 count 6 'parallel arrays' 'fn lots_of'
-count 7 'a step chosen by a chain of comparisons or by a kind of rule' 'if same\(name|^ +Rules::[A-Za-z]+ =>'
+count 7 'a step chosen by a chain of comparisons or by a kind of rule' 'if (same\(name|is\(b)|^ +Rules::[A-Za-z]+ =>'
 echo "8; lines of proofs: $(git grep -c '' $commit -- ':(glob)crates/*/proofs/**' | awk -F: '{s+=$NF} END {print s}')"
