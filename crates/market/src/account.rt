@@ -29,8 +29,6 @@ impl Record for Account {
 
     ghost lawful = { Prim.search rules };
 
-    ghost equal = { Prim.search rules };
-
     ghost tells = { Prim.search rules };
 
     fn key(&self) -> u32 {
@@ -39,6 +37,10 @@ impl Record for Account {
 
     fn key_code(&self) -> u64 {
         self.agent as u64
+    }
+
+    fn same_key(a: u32, b: u32) -> bool {
+        a == b
     }
 
     fn before(&self, other: &Account) -> bool {

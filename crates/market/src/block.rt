@@ -4,7 +4,7 @@ ghost use Rattle.market.specs.Answers.{bid_text};
 ghost use Rattle.market.specs.Limits.{BlockWithinLimits, KeyWithinLimits, NameWithinLimits};
 ghost use Rattle.market.specs.Entering.{bid_causes, fresh};
 ghost use Rattle.market.specs.Refusals.{FirstCause};
-ghost use Rattle.market.specs.Precedence.{at_one_price, key_code, key_of, lex};
+ghost use Rattle.market.specs.Precedence.{at_one_price, key_code, key_of, lex, same_key};
 
 use crate::limits::{
     agent_within, number_within, price_within, stamp_within, unit_within, volume_within,
@@ -65,6 +65,12 @@ impl From<BlockKey> for u64 {
 }
 
 impl BlockKey {
+    pub fn same(self, other: BlockKey) -> bool
+        ensures { result ≡ same_key self other }
+    {
+        self == other
+    }
+
     pub fn within_limits(self) -> bool
         ensures { Decides result (KeyWithinLimits self) }
     {

@@ -30,8 +30,6 @@ impl Record for Purchase {
 
     ghost lawful = { ranked_lawful (λ p. p.block.bid) (λ b. neg_ℤ b.price) };
 
-    ghost equal = { Prim.search rules };
-
     ghost tells = { Prim.search rules };
 
     fn key(&self) -> BlockKey {
@@ -40,6 +38,10 @@ impl Record for Purchase {
 
     fn key_code(&self) -> u64 {
         u64::from(self.block.bid.key())
+    }
+
+    fn same_key(a: BlockKey, b: BlockKey) -> bool {
+        a.same(b)
     }
 
     fn before(&self, other: &Purchase) -> bool {

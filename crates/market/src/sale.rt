@@ -31,8 +31,6 @@ impl Record for Sale {
 
     ghost lawful = { ranked_lawful (λ s. s.block.bid) (λ b. b.price) };
 
-    ghost equal = { Prim.search rules };
-
     ghost tells = { Prim.search rules };
 
     fn key(&self) -> BlockKey {
@@ -41,6 +39,10 @@ impl Record for Sale {
 
     fn key_code(&self) -> u64 {
         u64::from(self.block.bid.key())
+    }
+
+    fn same_key(a: BlockKey, b: BlockKey) -> bool {
+        a.same(b)
     }
 
     fn before(&self, other: &Sale) -> bool {

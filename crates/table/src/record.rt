@@ -3,7 +3,7 @@ ghost use Rattle.std.specs.Prelude.{◌≡◌, ℕ, true, Decides};
 ghost use Rattle.table.specs.Order.{Order, Lawful};
 
 pub trait Record: Copy {
-    type Key: Copy + PartialEq;
+    type Key: Copy;
 
     // The largest count of a table.
     const MAX: usize;
@@ -28,6 +28,9 @@ pub trait Record: Copy {
         ensures value { result ≡ code (order.named self.now) }
         ensures coded { coded (order.named self.now) };
 
+    fn same_key(a: Self::Key, b: Self::Key) -> bool
+        ensures { result ≡ order.same a b };
+
     // No `Ord`, which has to read every field that `==` reads: a precedence reads some of them.
     fn before(&self, other: &Self) -> bool
         ensures { result ≡ order.precedes self.now other.now };
@@ -36,9 +39,6 @@ pub trait Record: Copy {
         ensures { Decides result (limits self.now) };
 
     ghost lawful: { Lawful order };
-
-    // Two keys are the same where `==` says so.
-    ghost equal: { (a b : Self.Key) → Self.Key.eq a b ≡ order.same a b };
 
     ghost tells: { (a b : Self.Key) → coded a → coded b → code a ≡ code b → order.same a b ≡ true };
 }

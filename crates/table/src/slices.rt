@@ -43,7 +43,7 @@ fn rising<R: Record>(rows: &[R]) -> bool
 fn lacks<R: Record>(rows: &[R], key: R::Key) -> bool
     ensures { Decides result (AllByRecursion (λ x. R.order.same key (R.order.named x) ≡ false) rows.now) }
 {
-    rows.iter().all(|row| key != row.key())
+    rows.iter().all(|row| !R::same_key(key, row.key()))
 }
 
 // Whether no key stands twice, by a look at every later row: for a few rows, and for more than there is room for codes.

@@ -60,7 +60,9 @@ impl<'a, R: Record> View<'a, R> {
     pub fn find(&self, key: R::Key) -> Option<usize>
         ensures { result ≡ found R.order key (take self.now.count self.now.rows.now) }
     {
-        self.counted().iter().position(|row| row.key() == key)
+        self.counted()
+            .iter()
+            .position(|row| R::same_key(row.key(), key))
     }
 
     // How many counted rows, from the first on, come before `row`.
