@@ -1,8 +1,9 @@
 -- Lists in which each element stands to each later one in a relation.
-use Rattle.std.proofs.Common.{◌≡◌, ℕ, zero, suc, ◌+◌, ◌<◌, Bool, true, false, Decides, List, [], ◌∷◌, length, get_or, take, drop, sym, refl, arith}
+use Rattle.std.proofs.Common.{◌≡◌, ℕ, zero, suc, ◌+◌, ◌<◌, Bool, true, false, Decides, List, [], ◌∷◌, ◌++◌, length, get_or, take, drop, sym, refl, ap, ◌∙◌, subst, arith}
 use Rattle.std.specs.List.{insert, remove, AllAdjacentBelow, AllByRecursion, IsAllAdjacentAnswer}
-use Rattle.std.proofs.ByRecursion.{All-append, All-take, All-drop, All-from_get_or, All-get_or, All-weaker}
+use Rattle.std.proofs.ByRecursion.{All-append, All-take, All-drop, All-from_get_or, All-get_or, All-push, All-weaker}
 use Rattle.std.proofs.lemmas.Bool.{both_ways}
+use Rattle.std.proofs.lemmas.List.{get_or-take, length-take-le, take_more}
 use Rattle.std.proofs.lemmas.Bool.Decides.{Decides-like}
 use Rattle.table.specs.Rows.{Pairwise}
 
@@ -34,11 +35,32 @@ module _ {X : Type 0} (R : X → X → Type 0) where
   pairwise_from (x ∷ xs) h =
       (All-from_get_or (R x) xs x (λ i l. h 0 (suc i) x (omega arith) (omega arith)), pairwise_from xs (λ i j d p q. h (suc i) (suc j) d (omega arith) (omega arith)))
 
+  -- one element more, at the end
+  pub pairwise_push : (xs : List X) (x : X) → Pairwise R xs → AllByRecursion (λ y. R y x) xs → Pairwise R (xs ++ x ∷ [])
+  pairwise_push [] x h k = (tt, tt)
+  pairwise_push (y ∷ ys) x h k = (All-push (R y) ys x h.0 k.0, pairwise_push ys x h.1 k.1)
+
+  -- one element more, read from the list
+  pub pairwise_more : (xs : List X) (i : ℕ) (r : X) → i < length xs → r ≡ get_or xs i r → Pairwise R (take i xs) → AllByRecursion (λ y. R y r) (take i xs) → Pairwise R (take (i + 1) xs)
+  pairwise_more xs i r b e h k =
+      let next : take (i + 1) xs ≡ take i xs ++ r ∷ [] = take_more xs i r b ∙ ap (λ y. take i xs ++ y ∷ []) (sym e) in
+      subst (λ ys. Pairwise R ys) (sym next) (pairwise_push (take i xs) r h k)
+
   pub pairwise_get_or : (xs : List X) (i j : ℕ) (d : X) → Pairwise R xs → i < j → j < length xs → R (get_or xs i d) (get_or xs j d)
   pairwise_get_or [] i j d h b l = absurd (let z : ⊥ = omega arith in z)
   pairwise_get_or (x ∷ xs) i zero d h b l = absurd (let z : ⊥ = omega arith in z)
   pairwise_get_or (x ∷ xs) zero (suc j) d h b l = All-get_or (R x) xs j d (omega arith) h.0
   pairwise_get_or (x ∷ xs) (suc i) (suc j) d h b l = pairwise_get_or xs i j d h.1 (omega arith) (omega arith)
+
+  -- each element before one that is read from the list stands to it
+  pub pairwise_before : (xs : List X) (i : ℕ) (r : X) → i < length xs → r ≡ get_or xs i r → Pairwise R xs → AllByRecursion (λ y. R y r) (take i xs)
+  pairwise_before xs i r b e h =
+      let len : length (take i xs) ≡ i = length-take-le i xs (omega arith) in
+      All-from_get_or (λ y. R y r) (take i xs) r
+      (λ j l.
+      let s : j < i = omega arith in
+      let step : R (get_or xs j r) (get_or xs i r) = pairwise_get_or xs j i r h s b in
+      subst (λ x. R x r) (sym (get_or-take i xs j r s)) (subst (λ y. R (get_or xs j r) y) (sym e) step))
 
   -- where the relation chains, neighbours are enough
   pub pairwise_chain : ((x y z : X) → R x y → R y z → R x z) → (xs : List X) → AllAdjacentBelow R xs (length xs) → Pairwise R xs

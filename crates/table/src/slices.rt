@@ -41,21 +41,19 @@ fn rising<R: Record>(rows: &[R]) -> bool
 
 // Whether no row has the key.
 fn lacks<R: Record>(rows: &[R], key: R::Key) -> bool
-    ensures { Decides result (AllByRecursion (λ x. R.order.same key (R.order.named x) ≡ false) rows.now) }
+    ensures { Decides result (AllByRecursion (λ x. R.order.same (R.order.named x) key ≡ false) rows.now) }
 {
-    rows.iter().all(|row| !R::same_key(key, row.key()))
+    rows.iter().all(|row| !R::same_key(row.key(), key))
 }
 
-// Whether no key stands twice, by a look at every later row: for a few rows, and for more than there is room for codes.
+// Whether no key stands twice, by a look at every earlier row: for a few rows, and for more than there is room for codes.
 fn keys_apart_slowly<R: Record>(rows: &[R]) -> bool
     ensures { Decides result (Apart R.order rows.now) }
 {
-    let mut rest = rows;
-    while let Some((row, later)) = rest.split_first() {
-        if !lacks(later, row.key()) {
+    for (i, row) in rows.iter().enumerate() {
+        if !lacks(&rows[..i], row.key()) {
             return false;
         }
-        rest = later;
     }
     true
 }
@@ -160,7 +158,7 @@ fn codes_apart<R: Record>(rows: &[R]) -> bool
     all_differ(codes)
 }
 
-// Up to so many rows a look at every later row is quicker than clearing the room for codes.
+// Up to so many rows a look at every earlier row is quicker than clearing the room for codes.
 const FEW: usize = 8;
 
 // Whether no key stands twice.
