@@ -2,7 +2,7 @@
 // are more than 120.
 ghost use Rattle.callfile.specs.Gathering.{Holds, held, with_byte};
 ghost use Rattle.std.specs.Option.{option_map};
-ghost use Rattle.std.specs.Prelude.{◌≡◌, ◌≤◌, ℕ, List, [], ◌∷◌, ◌++◌, length, IfSome};
+ghost use Rattle.std.specs.Prelude.{◌≡◌, ◌≤◌, ◌↔◌, ℕ, List, [], ◌∷◌, ◌++◌, length, Some, IfSome, IsTrue};
 
 use crate::line::{LONGEST_LINE, LineBuffer};
 use arrayvec::ArrayVec;
@@ -39,10 +39,23 @@ impl LineBuffer {
         }
     }
 
+    // Whether no byte was added. A line that is too long is not empty.
+    pub fn is_empty(&self) -> bool
+        ensures { IsTrue result ↔ (held self.now ≡ Some []) }
+    {
+        match &self.bytes {
+            Some(bytes) => bytes.is_empty(),
+            None => false,
+        }
+    }
+
     // Begins a new line.
     pub fn clear(&mut self)
         ensures { Holds self.new [] }
     {
-        *self = LineBuffer::new();
+        match &mut self.bytes {
+            Some(bytes) => bytes.clear(),
+            None => *self = LineBuffer::new(),
+        }
     }
 }
