@@ -50,7 +50,11 @@ fn row_cents<B: BlockRow>(row: &B, price: i32) -> i64
     ensures value { result ≡ total (λ e. e.cents) (side_entries (trade_of B.held B.traded) price (row.now ∷ [])) }
     ensures small { unsigned_abs result ≤ 2 ^ 60 }
 {
-    cents(B::side(), price, row.block().matched)
+    let block = row.block();
+    if block.matched == 0 {
+        return 0;
+    }
+    cents(B::side(), price, block.matched)
 }
 
 // The cents of a row's entry that go to the agent.
