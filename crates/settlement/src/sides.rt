@@ -111,11 +111,12 @@ fn row_entry<B: BlockRow>(row: &B, price: i32) -> Entry
     }
 }
 
-// Writes the entries of all matched blocks over the first places. The place is counted by hand: a `for` over an enumerated filter gets
-// no invariant in a generic function.
-pub(crate) fn write_side<B: BlockRow>(blocks: &[B], price: i32, entries: &mut [Entry])
+// Writes the entries of all matched blocks over the first places; answers how many. The place is counted by hand: a `for` over an
+// enumerated filter gets no invariant in a generic function.
+pub(crate) fn write_side<B: BlockRow>(blocks: &[B], price: i32, entries: &mut [Entry]) -> usize
     requires { length (side_entries (trade_of B.held B.traded) price blocks.now) ≤ length entries.old }
-    ensures { entries.new ≡ written 0 (side_entries (trade_of B.held B.traded) price blocks.now) entries.old }
+    ensures entries { entries.new ≡ written 0 (side_entries (trade_of B.held B.traded) price blocks.now) entries.old }
+    ensures count { result ≡ length (side_entries (trade_of B.held B.traded) price blocks.now) }
 {
     let mut place = 0;
     for row in blocks {
@@ -124,4 +125,5 @@ pub(crate) fn write_side<B: BlockRow>(blocks: &[B], price: i32, entries: &mut [E
             place += 1;
         }
     }
+    place
 }

@@ -15,8 +15,8 @@ bounds-entries-first c =
     let two = zone_entries o.two in
     let xs = c.args.entries.now in
     let fit : length one + length two ≤ length xs = omega (arith, session_count o, c.requires) in
-    let both = written_behind one two xs c.write.new.entries c.write-2.new.entries c.matched_blocks-first.result c.matched_blocks-first.ensures.value fit c.write.ensures c.write-2.ensures in
-    omega (arith, ap length both, length_written 0 (one ++ two) xs (omega (arith, fit, length-append one two)), session_count o, c.requires, c.matched_blocks-first.ensures.value, c.matched_blocks-second.ensures.value)
+    let both = written_behind one two xs c.write-first.new.entries c.write-second.new.entries c.write-first.result c.write-first.ensures.count fit c.write-first.ensures.entries c.write-second.ensures.entries in
+    omega (arith, ap length both, length_written 0 (one ++ two) xs (omega (arith, fit, length-append one two)), session_count o, c.requires, c.write-first.ensures.count, c.write-second.ensures.count)
 
 pub returns : goal.returns
 returns c =
@@ -24,13 +24,13 @@ returns c =
     let one = zone_entries o.one in
     let two = zone_entries o.two in
     let xs = c.args.entries.now in
-    let n = c.matched_blocks-first.result in
-    let place = n + c.matched_blocks-second.result in
-    let first = c.write.new.entries in
-    let blocks = put_mid n (length first - n) first c.write-2.new.entries in
+    let n = c.write-first.result in
+    let place = n + c.write-second.result in
+    let first = c.write-first.new.entries in
+    let blocks = put_mid n (length first - n) first c.write-second.new.entries in
     let fit : length one + length two ≤ length xs = omega (arith, session_count o, c.requires) in
-    let both = written_behind one two xs first c.write-2.new.entries n c.matched_blocks-first.ensures.value fit c.write.ensures c.write-2.ensures in
-    let size : place ≡ length (one ++ two) = omega (arith, length-append one two, c.matched_blocks-first.ensures.value, c.matched_blocks-second.ensures.value) in
+    let both = written_behind one two xs first c.write-second.new.entries n c.write-first.ensures.count fit c.write-first.ensures.entries c.write-second.ensures.entries in
+    let size : place ≡ length (one ++ two) = omega (arith, length-append one two, c.write-first.ensures.count, c.write-second.ensures.count) in
     let same : length blocks ≡ length xs = ap length both ∙ length_written 0 (one ++ two) xs (omega (arith, fit, length-append one two)) in
     let room : place < length blocks = omega (arith, size, same, session_count o, c.requires, length-append one two) in
     let all : entries_of o ≡ (one ++ two) ++ entry (income_due o) ∷ [] = entry_parts o ∙ ap (λ es. es ++ entry (income_due o) ∷ []) (block_parts o) in
