@@ -83,6 +83,14 @@ fn exceeds(more: u128, less: u128, flow: i32) -> bool
     less.checked_add_signed(flow as i128) == Some(more)
 }
 
+// Writes the entry of the congestion income at the place, also when it is zero.
+fn write_income(entries: &mut [Entry], place: usize, cents: i64)
+    requires { place < length entries.old }
+    ensures { entries.new ≡ set entries.old place (record { agent = 0; unit = 0; number = 0; cents = cents }) }
+{
+    entries[place] = Entry::income(cents);
+}
+
 // Each method of a session joins its two zones by `+` or `&&`. A helper that took the zone's method as a closure would need a
 // contract over all such closures, to save a few words.
 impl ClearedSession<'_> {
@@ -158,6 +166,6 @@ impl ClearedSession<'_> {
     {
         let first = self.one.write(entries);
         let second = self.two.write(&mut entries[first..]);
-        entries[first + second] = Entry::income(self.income());
+        write_income(entries, first + second, self.income());
     }
 }

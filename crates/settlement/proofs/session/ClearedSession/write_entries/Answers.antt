@@ -4,12 +4,13 @@ use Rattle.std.proofs.lemmas.Int.{ints}
 use Rattle.settlement.specs.Entries.{entries_of, entry, income_due, zone_entries}
 use Rattle.settlement.specs.Writing.{written}
 use Rattle.settlement.specs.Sessions.{outcome_of}
+use Rattle.settlement.specs.declared.entry.Entry.{Entry}
 use Rattle.settlement.proofs.Parts.{block_parts, entry_parts, session_count}
 use Rattle.settlement.proofs.Writes.{length_written, written_behind, written_push}
 use Rattle.settlement.proofs.session.ClearedSession.write_entries.Goals as goal
 
-pub bounds-entries-first : goal.bounds-entries-first
-bounds-entries-first c =
+pub write_income-requires : goal.write_income-requires
+write_income-requires c =
     let o = outcome_of c.args.self in
     let one = zone_entries o.one in
     let two = zone_entries o.two in
@@ -35,5 +36,6 @@ returns c =
     let room : place < length blocks = omega (arith, size, same, session_count o, c.requires, length-append one two) in
     let all : entries_of o ≡ (one ++ two) ++ entry (income_due o) ∷ [] = entry_parts o ∙ ap (λ es. es ++ entry (income_due o) ∷ []) (block_parts o) in
     let out : to_z w64 (of_z w64 c.income.result) ≡ c.income.result = omega (arith, ints) in
-    let last : c.income-2.result ≡ entry (income_due o) = c.income-2.ensures ∙ ap (λ z. record { agent = 0; unit = 0; number = 0; cents = z }) (out ∙ c.income.ensures.value) in
-    ap (set blocks place) last ∙ written_push (one ++ two) xs blocks place (entry (income_due o)) both size room same ∙ ap (λ es. written 0 es xs) (sym all)
+    let wrote : Entry = record { agent = 0; unit = 0; number = 0; cents = to_z w64 (of_z w64 c.income.result) } in
+    let last : wrote ≡ entry (income_due o) = ap (λ z. record { agent = 0; unit = 0; number = 0; cents = z }) (out ∙ c.income.ensures.value) in
+    c.write_income.ensures ∙ ap (set blocks place) last ∙ written_push (one ++ two) xs blocks place (entry (income_due o)) both size room same ∙ ap (λ es. written 0 es xs) (sym all)
