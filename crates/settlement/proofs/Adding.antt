@@ -12,7 +12,6 @@ use Rattle.settlement.specs.Entries.{Due, Outcome, Trade, ZoneOutcome, block_due
 use Rattle.settlement.specs.Postings.{remainder, residue_of, tenth, total}
 use Rattle.settlement.specs.Balance.{AddsUp, Balanced, matched}
 use Rattle.settlement.proofs.Roundings.{rounds}
-use Rattle.settlement.proofs.Rows.{signed_none}
 use Rattle.settlement.proofs.Sums.{total_append}
 
 spread : (p a b : ℤ) → p *ℤ (a +ℤ b) ≡ p *ℤ a +ℤ p *ℤ b
@@ -28,6 +27,10 @@ opposite p a =
 signed_adds : (s : Side) (p : ℤ) (m n : ℕ) → signed s (p *ℤ pos (m + n)) ≡ signed s (p *ℤ pos m) +ℤ signed s (p *ℤ pos n)
 signed_adds side.Sale p m n = omega (arith, ints)
 signed_adds side.Purchase p m n = omega (arith, ints)
+
+signed_none : (s : Side) (p : ℤ) (n : ℕ) → n ≤ 0 → signed s (p *ℤ pos n) ≡ pos 0
+signed_none side.Sale p n h = let e : n ≡ 0 = omega arith in rw e (omega (arith, ints))
+signed_none side.Purchase p n h = let e : n ≡ 0 = omega arith in rw e (omega (arith, ints))
 
 -- what the blocks of one side are due in all
 pub side_exact : {X : Type 0} (t : Trade X) (p : ℤ) (xs : List X) → total (λ d. d.exact) (dues t p xs) ≡ signed t.side (p *ℤ pos (matched t xs))

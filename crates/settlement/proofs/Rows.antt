@@ -1,26 +1,16 @@
 -- The entries of one side, row by row.
-use Rattle.std.proofs.Common.{◌≡◌, ℕ, ◌+◌, ◌<◌, ◌≤◌, Bool, true, false, cond, ltb, List, [], ◌∷◌, ◌++◌, map, length, get_or, take, drop, ℤ, pos, ◌+ℤ◌, ◌*ℤ◌, filter, sym, refl, ap, ◌∙◌, arith, length-append}
+use Rattle.std.proofs.Common.{◌≡◌, ℕ, ◌+◌, ◌<◌, true, false, cond, List, [], ◌∷◌, ◌++◌, map, length, get_or, take, drop, ℤ, ◌+ℤ◌, filter, sym, refl, ap, ◌∙◌, arith, length-append}
 use Rattle.std.specs.List.{AllByRecursion}
 use Rattle.std.proofs.lemmas.List.{map-append, take_more, take-append-drop}
 use Rattle.std.proofs.lemmas.List.Elements.{filter-append}
-use Rattle.std.proofs.lemmas.Bool.{ltb-false}
-use Rattle.std.proofs.lemmas.Int.{ints}
-use Rattle.market.specs.declared.block.Block.{Block}
-use Rattle.market.specs.declared.zone.Side.{Side}
-use Rattle.market.specs.declared.zone.Side.TheVariants as side
-use Rattle.settlement.specs.Entries.{Trade, due, dues, entry, is_matched, side_entries, signed}
+use Rattle.settlement.specs.Entries.{Trade, due, dues, entry, is_matched, side_entries}
 use Rattle.settlement.specs.Postings.{total}
-use Rattle.settlement.specs.Rounding.{nearest_cent}
 use Rattle.settlement.specs.declared.entry.Entry.{Entry}
 use Rattle.settlement.proofs.Sums.{total_append}
 
 pub all_parts : {X : Type 0} (P : X → Type 0) (xs ys : List X) → AllByRecursion P (xs ++ ys) → AllByRecursion P xs × AllByRecursion P ys
 all_parts P [] ys h = (tt, h)
 all_parts P (x ∷ xs) ys (here, h) = let parts = all_parts P xs ys h in ((here, parts.0), parts.1)
-
-pub signed_none : (s : Side) (p : ℤ) (n : ℕ) → n ≤ 0 → signed s (p *ℤ pos n) ≡ pos 0
-signed_none side.Sale p n h = let e : n ≡ 0 = omega arith in rw e (omega (arith, ints))
-signed_none side.Purchase p n h = let e : n ≡ 0 = omega arith in rw e (omega (arith, ints))
 
 module _ {X : Type 0} (t : Trade X) (p : ℤ) where
   entries_append : (xs ys : List X) → side_entries t p (xs ++ ys) ≡ side_entries t p xs ++ side_entries t p ys
@@ -50,19 +40,3 @@ module _ {X : Type 0} (t : Trade X) (p : ℤ) where
         let n = i + 1 in
         let all = ap (side_entries t p) (sym (take-append-drop n xs)) ∙ entries_append (take n xs) (drop n xs) in
         omega (arith, ap length all, length-append (side_entries t p (take n xs)) (side_entries t p (drop n xs)), ap length entries_more, length-append (side_entries t p (take i xs)) (side_entries t p (r ∷ [])), ap length (entries_one r m))
-
-  -- a row of which nothing is matched is due nothing
-  row_exact : (x : X) → nearest_cent (signed t.side (p *ℤ pos (t.block x).matched)) ≡ total (λ e. e.cents) (side_entries t p (x ∷ []))
-  unfolding nearest_cent
-  row_exact x =
-      let P : Bool → Type 0 = λ b. ltb 0 (t.block x).matched ≡ b → nearest_cent (signed t.side (p *ℤ pos (t.block x).matched)) ≡ total (λ e. e.cents) (map entry (map (due t p) (cond b (x ∷ []) []))) in
-      let go : P (ltb 0 (t.block x).matched) =
-      elim (ltb 0 (t.block x).matched) as P [
-        | true ↦ λ _. omega (arith, ints)
-        | false ↦ λ h. ap nearest_cent (signed_none t.side p (t.block x).matched (ltb-false 0 (t.block x).matched h))
-      ] in
-      go refl
-
-  pub row_total : (x : X) (s : Side) (b : Block) (q : ℤ) → s ≡ t.side → b ≡ t.block x → q ≡ p → nearest_cent (signed s (q *ℤ pos b.matched)) ≡ total (λ e. e.cents) (side_entries t p (x ∷ []))
-  row_total x s b q e f h =
-      ap (λ z. nearest_cent (signed z (q *ℤ pos b.matched))) e ∙ ap (λ y. nearest_cent (signed t.side (q *ℤ pos y.matched))) f ∙ ap (λ z. nearest_cent (signed t.side (z *ℤ pos (t.block x).matched))) h ∙ row_exact x

@@ -65,14 +65,14 @@ impl ClearedZone<'_> {
         agents_known(self.sales, accounts) && agents_known(self.purchases, accounts)
     }
 
-    // Writes the zone's entries over the first places.
-    fn write(self, entries: &mut [Entry])
+    // Writes the zone's entries over the first places; answers how many.
+    fn write(self, entries: &mut [Entry]) -> usize
         requires { length (zone_entries (zone_of self)) ≤ length entries.old }
-        ensures { entries.new ≡ written 0 (zone_entries (zone_of self.entry)) entries.old }
+        ensures entries { entries.new ≡ written 0 (zone_entries (zone_of self.entry)) entries.old }
+        ensures count { result ≡ length (zone_entries (zone_of self.entry)) }
     {
-        let sold = matched_blocks(self.sales);
-        write_side(self.sales, self.price, entries);
-        write_side(self.purchases, self.price, &mut entries[sold..]);
+        let sold = write_side(self.sales, self.price, entries);
+        sold + write_side(self.purchases, self.price, &mut entries[sold..])
     }
 }
 
@@ -81,6 +81,14 @@ fn exceeds(more: u128, less: u128, flow: i32) -> bool
     ensures { Decides result (pos more ≡ pos less +ℤ flow) }
 {
     less.checked_add_signed(flow as i128) == Some(more)
+}
+
+// Writes the entry of the congestion income at the place, also when it is zero.
+fn write_income(entries: &mut [Entry], place: usize, cents: i64)
+    requires { place < length entries.old }
+    ensures { entries.new ≡ set entries.old place (record { agent = 0; unit = 0; number = 0; cents = cents }) }
+{
+    entries[place] = Entry::income(cents);
 }
 
 // Each method of a session joins its two zones by `+` or `&&`. A helper that took the zone's method as a closure would need a
@@ -156,10 +164,8 @@ impl ClearedSession<'_> {
         requires { length (entries_of (outcome_of self)) ≤ length entries.old }
         ensures { entries.new ≡ written 0 (entries_of (outcome_of self.entry)) entries.old }
     {
-        let first = self.one.matched_blocks() as usize;
-        let second = self.two.matched_blocks() as usize;
-        self.one.write(entries);
-        self.two.write(&mut entries[first..]);
-        entries[first + second] = Entry::income(self.income());
+        let first = self.one.write(entries);
+        let second = self.two.write(&mut entries[first..]);
+        write_income(entries, first + second, self.income());
     }
 }

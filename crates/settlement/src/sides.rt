@@ -50,7 +50,11 @@ fn row_cents<B: BlockRow>(row: &B, price: i32) -> i64
     ensures value { result ≡ total (λ e. e.cents) (side_entries (trade_of B.held B.traded) price (row.now ∷ [])) }
     ensures small { unsigned_abs result ≤ 2 ^ 60 }
 {
-    cents(B::side(), price, row.block().matched)
+    let block = row.block();
+    if block.matched == 0 {
+        return 0;
+    }
+    cents(B::side(), price, block.matched)
 }
 
 // The cents of a row's entry that go to the agent.
@@ -107,11 +111,12 @@ fn row_entry<B: BlockRow>(row: &B, price: i32) -> Entry
     }
 }
 
-// Writes the entries of all matched blocks over the first places. The place is counted by hand: a `for` over an enumerated filter gets
-// no invariant in a generic function.
-pub(crate) fn write_side<B: BlockRow>(blocks: &[B], price: i32, entries: &mut [Entry])
+// Writes the entries of all matched blocks over the first places; answers how many. The place is counted by hand: a `for` over an
+// enumerated filter gets no invariant in a generic function.
+pub(crate) fn write_side<B: BlockRow>(blocks: &[B], price: i32, entries: &mut [Entry]) -> usize
     requires { length (side_entries (trade_of B.held B.traded) price blocks.now) ≤ length entries.old }
-    ensures { entries.new ≡ written 0 (side_entries (trade_of B.held B.traded) price blocks.now) entries.old }
+    ensures entries { entries.new ≡ written 0 (side_entries (trade_of B.held B.traded) price blocks.now) entries.old }
+    ensures count { result ≡ length (side_entries (trade_of B.held B.traded) price blocks.now) }
 {
     let mut place = 0;
     for row in blocks {
@@ -120,4 +125,5 @@ pub(crate) fn write_side<B: BlockRow>(blocks: &[B], price: i32, entries: &mut [E
             place += 1;
         }
     }
+    place
 }
