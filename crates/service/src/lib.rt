@@ -39,26 +39,18 @@ impl<'a, W: Write> Input<'a, W> {
         answered
     }
 
-    // Takes a byte of the input.
-    fn take_byte<S: Service>(&mut self, service: S, byte: u8) -> (S, io::Result<()>)
-        ensures answered { (line : List ℕ) → Within self.old.line line → Answered S.turns service (ended line (byte ∷ [])) result.0 }
-        ensures within { (line : List ℕ) → Within self.old.line line → Within self.new.line (begun_after line (byte ∷ [])) }
-    {
-        if byte == b'\n' {
-            return self.end_line(service);
-        }
-        self.line.push(byte);
-        (service, Ok(()))
-    }
-
-    // Takes a piece of the input.
+    // Takes a piece of the input. The service is handed on once a line and not once a byte, which costs more than a byte does.
     fn take_piece<S: Service>(&mut self, service: S, piece: &[u8]) -> (S, io::Result<()>)
         ensures answered { (line : List ℕ) → Within self.old.line line → OnOk result.1 (Answered S.turns service (ended line piece.now) result.0) }
         ensures within { (line : List ℕ) → Within self.old.line line → OnOk result.1 (Within self.new.line (begun_after line piece.now)) }
     {
         let mut service = service;
         for byte in piece {
-            let (next, done) = self.take_byte(service, *byte);
+            if *byte != b'\n' {
+                self.line.push(*byte);
+                continue;
+            }
+            let (next, done) = self.end_line(service);
             service = next;
             if done.is_err() {
                 return (service, done);
