@@ -46,6 +46,7 @@ fn refuses_what_is_no_form(rt: HostRuntime) {
 #[test]
 fn gathers_a_line(rt: HostRuntime) -> Result<(), Fail> {
     let mut buffer = LineBuffer::new();
+    assert!(rt; buffer.is_empty());
     for byte in b"(close)" {
         buffer.push(*byte);
     }
@@ -54,7 +55,9 @@ fn gathers_a_line(rt: HostRuntime) -> Result<(), Fail> {
         buffer.push(b' ');
     }
     assert!(rt; buffer.line().is_none());
+    assert!(rt; !buffer.is_empty());
     buffer.clear();
+    assert!(rt; buffer.is_empty());
     assert_eq!(rt; buffer.line().ok_or("too long")?.len(), 0);
     Ok(())
 }

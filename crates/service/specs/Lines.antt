@@ -1,6 +1,6 @@
 -- Which lines of an input are answered. To believe: a line ends at its newline, which is byte 10, and is no part of it; every line that
 -- ends is answered in turn, and of a line of more than 120 bytes it is only known that it was too long.
-use Rattle.std.specs.Prelude.{◌≡◌, ℕ, Bool, true, false, cond, List, [], ◌∷◌, ◌++◌, Some, None, Option, ◌==◌}
+use Rattle.std.specs.Prelude.{◌≡◌, ℕ, Bool, true, false, cond, List, [], ◌∷◌, ◌++◌, Option, ◌==◌}
 use Rattle.callfile.specs.Gathering.{Holds, gathered}
 use Rattle.callfile.specs.declared.line.LineBuffer.{LineBuffer}
 
@@ -28,7 +28,6 @@ abbrev pub last_line : List ℕ → List (List ℕ)
 last_line [] = []
 last_line (byte ∷ line) = (byte ∷ line) ∷ []
 
--- the input stands within the line: the buffer holds it, and there is none where no byte of it was read
-abbrev pub Within : Option LineBuffer → List ℕ → Type 0
-Within None line = line ≡ []
-Within (Some b) line = Holds b line × (is_begun line ≡ true)
+-- the input stands within the line: the buffer holds it
+abbrev pub Within : LineBuffer → List ℕ → Type 0
+Within b line = Holds b line

@@ -4,7 +4,7 @@
 ghost use Rattle.std.specs.Prelude.{◌≡◌, ℕ, List, [], ◌∷◌, Option, OnOk};
 ghost use Rattle.std.specs.Option.{option_map};
 ghost use Rattle.callfile.specs.Gathering.{gathered};
-ghost use Rattle.service.specs.Lines.{Answered, Within, begun_after, ended, last_line};
+ghost use Rattle.service.specs.Lines.{Answered, Within, begun_after, ended, is_begun, last_line};
 
 use callfile::line::LineBuffer;
 use std::io;
@@ -20,11 +20,11 @@ pub trait Service: Sized {
         ensures { turns self (option_map (λ x. x.now) line.entry) result.0 };
 }
 
-// The line that is begun, if one is, and where answers go.
+// The line that is read, and where answers go.
 #[derive(Drop)]
 struct Input<'a, W> {
     out: &'a mut W,
-    line: Option<LineBuffer>,
+    line: LineBuffer,
 }
 
 // Each hands the service back, also where the output fails: so no step is ended by `?`.
@@ -34,8 +34,9 @@ impl<'a, W: Write> Input<'a, W> {
         ensures turned { (line : List ℕ) → Within self.old.line line → S.turns service (gathered line) result.0 }
         ensures anew { Within self.new.line [] }
     {
-        let line = self.line.take().unwrap_or_else(LineBuffer::new);
-        service.reply(self.out, line.line())
+        let answered = service.reply(self.out, self.line.line());
+        self.line.clear();
+        answered
     }
 
     // Takes a byte of the input.
@@ -46,7 +47,7 @@ impl<'a, W: Write> Input<'a, W> {
         if byte == b'\n' {
             return self.end_line(service);
         }
-        self.line.get_or_insert_with(LineBuffer::new).push(byte);
+        self.line.push(byte);
         (service, Ok(()))
     }
 
@@ -66,11 +67,18 @@ impl<'a, W: Write> Input<'a, W> {
         (service, Ok(()))
     }
 
+    // Whether a byte of the line was read.
+    fn is_begun(&self) -> bool
+        ensures { (line : List ℕ) → Within self.now.line line → result ≡ is_begun line }
+    {
+        !self.line.is_empty()
+    }
+
     // Answers a line that is begun, at the end of the input.
     fn finish<S: Service>(&mut self, service: S) -> (S, io::Result<()>)
         ensures { (line : List ℕ) → Within self.old.line line → Answered S.turns service (last_line line) result.0 }
     {
-        if self.line.is_some() {
+        if self.is_begun() {
             return self.end_line(service);
         }
         (service, Ok(()))
@@ -86,7 +94,10 @@ pub fn serve<S: Service, R: Read, W: Write>(
     ensures { OnOk result.1 ((lines : List (List ℕ)) × Answered S.turns service lines result.0) }
 {
     let mut service = service;
-    let mut taken = Input { out, line: None };
+    let mut taken = Input {
+        out,
+        line: LineBuffer::new(),
+    };
     // Fixed memory, since a service has no heap.
     let mut piece = [0u8; 4096];
     // An input may have no end: the proof that the loop has one needs the count.

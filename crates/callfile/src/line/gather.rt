@@ -2,9 +2,9 @@
 // are more than 120.
 ghost use Rattle.callfile.specs.Gathering.{Holds, held, with_byte};
 ghost use Rattle.std.specs.Option.{option_map};
-ghost use Rattle.std.specs.Prelude.{◌≡◌, ℕ, List, [], ◌∷◌, ◌++◌};
+ghost use Rattle.std.specs.Prelude.{◌≡◌, ◌≤◌, ◌↔◌, ℕ, List, [], ◌∷◌, ◌++◌, length, Some, IfSome, IsTrue};
 
-use crate::line::LineBuffer;
+use crate::line::{LONGEST_LINE, LineBuffer};
 use arrayvec::ArrayVec;
 
 impl LineBuffer {
@@ -30,7 +30,8 @@ impl LineBuffer {
 
     // The line, unless it is too long.
     pub fn line(&self) -> Option<&[u8]>
-        ensures { option_map (λ x. x.now) result ≡ held self.now }
+        ensures bytes { option_map (λ x. x.now) result ≡ held self.now }
+        ensures within { IfSome result (λ x. length x.now ≤ LONGEST_LINE) }
     {
         match &self.bytes {
             Some(bytes) => Some(bytes.as_slice()),
@@ -38,10 +39,23 @@ impl LineBuffer {
         }
     }
 
+    // Whether no byte was added. A line that is too long is not empty.
+    pub fn is_empty(&self) -> bool
+        ensures { IsTrue result ↔ (held self.now ≡ Some []) }
+    {
+        match &self.bytes {
+            Some(bytes) => bytes.is_empty(),
+            None => false,
+        }
+    }
+
     // Begins a new line.
     pub fn clear(&mut self)
         ensures { Holds self.new [] }
     {
-        *self = LineBuffer::new();
+        match &mut self.bytes {
+            Some(bytes) => bytes.clear(),
+            None => *self = LineBuffer::new(),
+        }
     }
 }
