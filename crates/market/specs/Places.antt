@@ -1,15 +1,21 @@
--- The places of the block tables, as they are lent to a call. To believe: that two such values lend the same places if each of their
--- four references is the same; a contract that says so lets the lender know what its own slices hold afterwards.
-use Rattle.std.specs.Prelude.{◌≡◌}
+-- The places of the block tables, as they are lent to a call. To believe: that a slice lent by a field is the same slice afterwards if it
+-- is the same reference and has as many places as before, and that two such values lend the same places if each of their slices is the
+-- same; a contract that says so lets the lender know what its own slices hold afterwards.
+use Rattle.std.specs.Prelude.{◌≡◌, List, length}
+use Rattle.std.specs.Borrow.{MutBor}
 use Rattle.market.specs.declared.places.BlockPlaces.{BlockPlaces}
 use Rattle.market.specs.declared.places.ZonePlaces.{ZonePlaces}
 
+-- b is the reference a, with as many places as a had, whatever they hold
+abbrev pub SameSlice : {X : Type 0} → MutBor (List X) → MutBor (List X) → Type 0
+SameSlice a b = (b.ghost_name ≡ a.ghost_name) × (length b.now ≡ length a.now)
+
 abbrev pub SameZonePlaces : ZonePlaces → ZonePlaces → Type 0
-SameZonePlaces a b = (b.sales.ghost_name ≡ a.sales.ghost_name) × (b.purchases.ghost_name ≡ a.purchases.ghost_name)
+SameZonePlaces a b = SameSlice a.sales b.sales × SameSlice a.purchases b.purchases
 
 abbrev pub SamePlaces : BlockPlaces → BlockPlaces → Type 0
 SamePlaces a b =
-    (b.sales_one.ghost_name ≡ a.sales_one.ghost_name)
-    × (b.purchases_one.ghost_name ≡ a.purchases_one.ghost_name)
-    × (b.sales_two.ghost_name ≡ a.sales_two.ghost_name)
-    × (b.purchases_two.ghost_name ≡ a.purchases_two.ghost_name)
+    SameSlice a.sales_one b.sales_one
+    × SameSlice a.purchases_one b.purchases_one
+    × SameSlice a.sales_two b.sales_two
+    × SameSlice a.purchases_two b.purchases_two

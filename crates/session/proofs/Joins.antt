@@ -1,5 +1,5 @@
 -- Calls on one table, one zone and both zones: what they promise follows from what their parts promise.
-use Rattle.std.proofs.Common.{◌≡◌, ℕ, List, [], ◌∷◌, Some, None, Ok, Err, Option, Result, sym, refl, ap, ◌∙◌, subst}
+use Rattle.std.proofs.Common.{◌≡◌, ℕ, List, [], ◌∷◌, length, Some, None, Ok, Err, Option, Result, sym, refl, ap, ◌∙◌, subst}
 use Rattle.market.specs.Places.{SameZonePlaces}
 use Rattle.market.specs.Refusals.{Cause, FirstCause}
 use Rattle.market.specs.declared.places.BlockPlaces.{BlockPlaces}
@@ -37,11 +37,12 @@ with_purchases n (Ok m) = Ok record { sales = n.sales; purchases = m }
 with_purchases n (Err w) = Err w
 
 module _ (causes : Side → List Cause) (change : Side → ZoneTables → ZoneTables) (n : ZoneCounts) (p : ZonePlaces) where
+  -- of a call that leaves the rows ts and qs in the places
   abbrev pub InSide : Side → Result ZoneCounts Refusal → List sale.Sale → List purchase.Purchase → Type 0
   InSide s r ts qs = record {
     why : FirstCause (causes s) r;
     after : ZoneBecomes p.sales.now p.purchases.now (change s (zone_held n p)) r ts qs;
-    lent : SameZonePlaces p p;
+    lent : SameZonePlaces p (record { sales = record p.sales { now = ts }; purchases = record p.purchases { now = qs } });
   }
 
   -- of a call on the one table that becomes t
@@ -49,14 +50,14 @@ module _ (causes : Side → List Cause) (change : Side → ZoneTables → ZoneTa
   InTable s xs t r ys = record { why : FirstCause (causes s) r; after : Leaves xs (Becomes t) r ys }
 
   pub in_sales : (s : Side) → s ≡ Sale → (t : Counted sale.Sale) → change Sale (zone_held n p) ≡ record { sales = t; purchases = lent p.purchases.now n.purchases } →
-      (r : Result ℕ Refusal) (ts : List sale.Sale) → InTable Sale p.sales.now t r ts → InSide s (with_sales n r) ts p.purchases.now
-  in_sales s e t c (Ok m) ts k = subst (λ (x : Side). InSide x (with_sales n (Ok m)) ts p.purchases.now) (sym e) record { why = ok_as (causes Sale) m (record { sales = m; purchases = n.purchases }) k.why; after = subst (λ (z : ZoneTables). ZoneBecomes p.sales.now p.purchases.now z (with_sales n (Ok m)) ts p.purchases.now) (sym c) (k.after, (refl, refl)); lent = (refl, refl) }
-  in_sales s e t c (Err why) ts k = subst (λ (x : Side). InSide x (Err why) ts p.purchases.now) (sym e) record { why = err_as ℕ ZoneCounts (causes Sale) why k.why; after = (k.after, refl); lent = (refl, refl) }
+      (r : Result ℕ Refusal) (ts : List sale.Sale) → InTable Sale p.sales.now t r ts → length ts ≡ length p.sales.now → InSide s (with_sales n r) ts p.purchases.now
+  in_sales s e t c (Ok m) ts k l = subst (λ (x : Side). InSide x (with_sales n (Ok m)) ts p.purchases.now) (sym e) record { why = ok_as (causes Sale) m (record { sales = m; purchases = n.purchases }) k.why; after = subst (λ (z : ZoneTables). ZoneBecomes p.sales.now p.purchases.now z (with_sales n (Ok m)) ts p.purchases.now) (sym c) (k.after, (refl, refl)); lent = ((refl, l), (refl, refl)) }
+  in_sales s e t c (Err why) ts k l = subst (λ (x : Side). InSide x (Err why) ts p.purchases.now) (sym e) record { why = err_as ℕ ZoneCounts (causes Sale) why k.why; after = (k.after, refl); lent = ((refl, l), (refl, refl)) }
 
   pub in_purchases : (s : Side) → s ≡ Purchase → (t : Counted purchase.Purchase) → change Purchase (zone_held n p) ≡ record { sales = lent p.sales.now n.sales; purchases = t } →
-      (r : Result ℕ Refusal) (qs : List purchase.Purchase) → InTable Purchase p.purchases.now t r qs → InSide s (with_purchases n r) p.sales.now qs
-  in_purchases s e t c (Ok m) qs k = subst (λ (x : Side). InSide x (with_purchases n (Ok m)) p.sales.now qs) (sym e) record { why = ok_as (causes Purchase) m (record { sales = n.sales; purchases = m }) k.why; after = subst (λ (z : ZoneTables). ZoneBecomes p.sales.now p.purchases.now z (with_purchases n (Ok m)) p.sales.now qs) (sym c) ((refl, refl), k.after); lent = (refl, refl) }
-  in_purchases s e t c (Err why) qs k = subst (λ (x : Side). InSide x (Err why) p.sales.now qs) (sym e) record { why = err_as ℕ ZoneCounts (causes Purchase) why k.why; after = (refl, k.after); lent = (refl, refl) }
+      (r : Result ℕ Refusal) (qs : List purchase.Purchase) → InTable Purchase p.purchases.now t r qs → length qs ≡ length p.purchases.now → InSide s (with_purchases n r) p.sales.now qs
+  in_purchases s e t c (Ok m) qs k l = subst (λ (x : Side). InSide x (with_purchases n (Ok m)) p.sales.now qs) (sym e) record { why = ok_as (causes Purchase) m (record { sales = n.sales; purchases = m }) k.why; after = subst (λ (z : ZoneTables). ZoneBecomes p.sales.now p.purchases.now z (with_purchases n (Ok m)) p.sales.now qs) (sym c) ((refl, refl), k.after); lent = ((refl, refl), (refl, l)) }
+  in_purchases s e t c (Err why) qs k l = subst (λ (x : Side). InSide x (Err why) p.sales.now qs) (sym e) record { why = err_as ℕ ZoneCounts (causes Purchase) why k.why; after = (refl, k.after); lent = ((refl, refl), (refl, l)) }
 
 -- ---- the two zones: z is the zone that a number names, and y the one that it is found to be
 pub accepted_in : {A B : Type 0} (causes : Option Zone → List Cause) (y z : Option Zone) (x : A) (v : B) → y ≡ z → FirstCause (causes y) (Ok x) → FirstCause (causes z) (Ok v)

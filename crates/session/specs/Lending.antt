@@ -1,6 +1,7 @@
 -- What is lent to a call, as lists. To believe: what a table holds is what its reference points to, and a look at a table shows it; two
--- such values lend the same places if each of their references is the same.
-use Rattle.std.specs.Prelude.{◌≡◌, List}
+-- such values lend the same places if each of their slices is the same one, with as many places.
+use Rattle.std.specs.Prelude.{List}
+use Rattle.market.specs.Places.{SameSlice}
 use Rattle.market.specs.declared.account.Account.{Account}
 use Rattle.market.specs.declared.places.BlockPlaces.{BlockPlaces}
 use Rattle.market.specs.declared.places.ZonePlaces.{ZonePlaces}
@@ -39,9 +40,9 @@ held_in l = places l.sales_one.now l.purchases_one.now l.sales_two.now l.purchas
 
 abbrev pub SameLent : Lent → Lent → Type 0
 SameLent a b =
-    (b.sales_one.ghost_name ≡ a.sales_one.ghost_name)
-    × (b.purchases_one.ghost_name ≡ a.purchases_one.ghost_name)
-    × (b.sales_two.ghost_name ≡ a.sales_two.ghost_name)
-    × (b.purchases_two.ghost_name ≡ a.purchases_two.ghost_name)
-    × (b.accounts.ghost_name ≡ a.accounts.ghost_name)
-    × (b.entries.ghost_name ≡ a.entries.ghost_name)
+    SameSlice a.sales_one b.sales_one
+    × SameSlice a.purchases_one b.purchases_one
+    × SameSlice a.sales_two b.sales_two
+    × SameSlice a.purchases_two b.purchases_two
+    × SameSlice a.accounts b.accounts
+    × SameSlice a.entries b.entries

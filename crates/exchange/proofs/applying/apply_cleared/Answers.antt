@@ -11,5 +11,5 @@ returns-in-Settle g c =
     rw c.in-Settle.is (record {
       does = (c.settle.result, k.why, k.after, refl, w);
       step = step_as g.P.PriceRule.meaning g.S.SharingRule.meaning _ settled_idle exchange.Cleared settling _ _ c.settle.result _ _ _ w k.step;
-      lent = (refl, refl, refl, refl, refl, refl);
+      lent = ((refl, refl), (refl, refl), (refl, refl), (refl, refl), (refl, c.settle.auto.accounts), (refl, c.settle.auto.entries));
     })

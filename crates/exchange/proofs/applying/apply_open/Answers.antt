@@ -15,7 +15,7 @@ returns-in-Admit g c =
     rw c.in-Admit.is (record {
       does = (c.admit.result, k.why, k.after, refl, w);
       step = step_as g.P.PriceRule.meaning g.S.SharingRule.meaning _ exchange.Open exchange.Open accepting _ _ c.admit.result _ _ _ w (k.step (held_in c.args.lent.now));
-      lent = (refl, refl, refl, refl, refl, refl);
+      lent = ((refl, refl), (refl, refl), (refl, refl), (refl, refl), (refl, c.admit.auto.accounts), (refl, refl));
     })
 
 pub returns-in-Enter-clause-does : goal.returns-in-Enter-clause-does

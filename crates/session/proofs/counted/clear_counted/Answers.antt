@@ -37,5 +37,5 @@ returns g c =
         gained = to_z-of_z w64 r.surplus fits-gain ∙ gain;
       };
       places = places_scheduled (outcome_at m f s t) s t l.sales_one l.purchases_one l.sales_two l.purchases_two k.zone₁ k.zone₂;
-      lent = (refl, refl, refl, refl);
+      lent = ((refl, search rules), (refl, search rules), (refl, search rules), (refl, search rules));
     }

@@ -12,7 +12,7 @@ returns-in_err-check g c =
     rw (d.1, d.2) (record {
       why = err_as (Unit {0}) Report (clear_causes (blocks_held c.args.session c.args.blocks.now)) c.in_err-check.field-0.0 c.in_err-check.ensures.why;
       after = refl;
-      lent = (refl, refl, refl, refl);
+      lent = ((refl, refl), (refl, refl), (refl, refl), (refl, refl));
     })
 
 pub returns : goal.returns
